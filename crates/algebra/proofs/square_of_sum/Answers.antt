@@ -1,0 +1,7 @@
+use Rattle.algebra.specs.Expr.{same}
+use Rattle.algebra.proofs.Solver.{identity}
+use Rattle.algebra.proofs.square_of_sum.Needs as need
+
+pub returns : need.returns
+unfolding same
+returns g c = identity _ _ tt

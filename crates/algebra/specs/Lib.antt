@@ -1,0 +1,4 @@
+pub mod Ring
+pub mod Units
+pub mod Polynomial
+pub mod Expr

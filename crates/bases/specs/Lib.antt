@@ -1,0 +1,4 @@
+pub mod Bounds
+pub mod Singles
+pub mod Residues
+pub mod Bits

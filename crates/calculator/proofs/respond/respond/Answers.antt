@@ -1,0 +1,22 @@
+use mathlib.Core.Path.{subst}
+use Rattle.std.specs.Of.Vec.{vec-items}
+use Rattle.calculator.specs.Results.{shown, Stops, Halted, system-of}
+use Rattle.calculator.specs.Text.{words}
+use Rattle.calculator.proofs.Shown.{writes-shown}
+use Rattle.calculator.proofs.respond.respond.Needs as need
+
+pub returns-in-Ok-evaluate : need.returns-in-Ok-evaluate
+returns-in-Ok-evaluate c =
+    let command = c .in-Ok .command in (
+      record { base = command .base; call = shown vec-items (command .call) },
+      writes-shown vec-items command (words (c .args .line .now)) (c .in-Ok .ensures tt),
+      c .in-Ok-evaluate .ensures tt,
+    )
+
+pub returns-in-Refused : need.returns-in-Refused
+returns-in-Refused c =
+    let command = c .in-Ok .command in (
+      record { base = command .base; call = shown vec-items (command .call) },
+      writes-shown vec-items command (words (c .args .line .now)) (c .in-Ok .ensures tt),
+      subst (Halted (Stops (system-of (command .base)) (shown vec-items (command .call)))) (c .in-Refused .is) (c .in-Err .ensures tt),
+    )

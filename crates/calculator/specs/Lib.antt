@@ -1,0 +1,4 @@
+pub mod Text
+pub mod Commands
+pub mod Results
+pub mod Lines
