@@ -80,15 +80,11 @@ Stops s c e = Refused s (lists c) e ⊎ Denied s c e
 abbrev pub GivesList : Sys → Call (List ℕ) → List ℕ → Type 0
 GivesList s c l = (x : s .Elem) × Gives s c x × (l ≡ s .list x)
 
--- where memory did not fail, the refusal has the property
-abbrev pub Halted : (Refusal → Type 0) → Halt → Type 0
-Halted P (H.the-variants.Refused e) = P e
-Halted P H.the-variants.NoMemory = Unit {0}
-
--- the result shows the list of what the call gives in the system, or its refusal there
+-- The result shows the list of what the call gives in the system, or its refusal there; want of memory can only keep back a list that there is.
 abbrev pub Worked : {V : Type 0} → (V → List ℕ) → Sys → Call (List ℕ) → Result V Halt → Type 0
 Worked shows s c (Ok v) = GivesList s c (shows v)
-Worked shows s c (Err h) = Halted (Stops s c) h
+Worked shows s c (Err (H.the-variants.Refused e)) = Stops s c e
+Worked shows s c (Err H.the-variants.NoMemory) = (x : s .Elem) × Gives s c x
 
 -- the number system of a base
 abbrev pub system-of : Base → Sys

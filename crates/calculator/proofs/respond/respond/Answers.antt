@@ -1,6 +1,9 @@
 use mathlib.Core.Path.{subst}
+use Prim.Native.Nat.{ℕ}
+use Rattle.std.specs.declared.alloc.Global.{Global}
+use Rattle.std.specs.declared.result.Result.the-variants.{Err}
 use Rattle.std.specs.Of.Vec.{vec-items}
-use Rattle.calculator.specs.Results.{shown, Stops, Halted, system-of}
+use Rattle.calculator.specs.Results.{shown, Worked, system-of}
 use Rattle.calculator.specs.Text.{words}
 use Rattle.calculator.proofs.Shown.{writes-shown}
 use Rattle.calculator.proofs.respond.respond.Needs as need
@@ -18,5 +21,5 @@ returns-in-Refused c =
     let command = c .in-Ok .command in (
       record { base = command .base; call = shown vec-items (command .call) },
       writes-shown vec-items command (words (c .args .line .now)) (c .in-Ok .ensures tt),
-      subst (Halted (Stops (system-of (command .base)) (shown vec-items (command .call)))) (c .in-Refused .is) (c .in-Err .ensures tt),
+      subst (λ h. Worked (vec-items {X = ℕ} {Z = Global}) (system-of (command .base)) (shown vec-items (command .call)) (Err h)) (c .in-Refused .is) (c .in-Err .ensures tt),
     )
