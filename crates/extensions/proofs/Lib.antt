@@ -1,0 +1,9 @@
+pub mod Tuples
+pub mod Natural
+pub mod Products
+pub mod Lawful
+pub mod Norms
+pub mod Roots
+pub mod Inverses
+pub mod Tables
+pub mod Classes

@@ -1,0 +1,5 @@
+pub mod Tuples
+pub mod Schoolbook
+pub mod Extensions
+pub mod Conjugates
+pub mod Classes
