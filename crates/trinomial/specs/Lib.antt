@@ -1,0 +1,2 @@
+pub mod Reduce
+pub mod Rows
