@@ -27,7 +27,7 @@ module _ (m : ℕ) (low : 2 ≤ m) where
   abbrev res : ℕ → Res m
   res = S.res m low
 
-  res-path : (x y : Res m) → x .0 ≡ y .0 → x ≡ y
+  pub res-path : (x y : Res m) → x .0 ≡ y .0 → x ≡ y
   res-path x y e = Σ-prop-path (λ n. le-prop) e
 
   -- numbers with one remainder mean one residue

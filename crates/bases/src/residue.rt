@@ -1,6 +1,6 @@
 // Residues modulo m.
 ghost use mathlib.Core.Path.{_≡_};
-ghost use Prim.Native.Nat.{_^_, _<_, _≤_};
+ghost use Prim.Native.Nat.{_%_, _^_, _<_, _≤_};
 ghost use Rattle.bases.specs.Residues.{residues, res};
 ghost use Rattle.std.specs.declared.option.Option.the-variants.{Some, None};
 use crate::euclid::inverse_modulo;
@@ -31,6 +31,16 @@ impl<M: Modulus> Residue<M> {
             })
         } else {
             None
+        }
+    }
+
+    // The residue of any number, which holds its remainder.
+    pub fn of(n: u32) -> Residue<M>
+        ensures { λ r. ⌜ r .value ≡ n % M·Modulus .m ⌝ }
+    {
+        Residue {
+            value: n % M::modulus(),
+            mark: M::default(),
         }
     }
 }
