@@ -9,6 +9,7 @@ use std::env;
 use std::panic;
 use std::process::ExitCode;
 
+// Any number would do; another one makes another list.
 const SEED: u64 = 20_261_118;
 
 fn main() -> ExitCode {
