@@ -1,5 +1,7 @@
 // The arithmetic of commutative rings: what follows from the laws, a solver for equations that hold in every such ring, units, and polynomials by
 // their values. A function here does nothing when it runs; its contract is a theorem over every ring on the type `A`.
+#![tactic(auto)]
+
 ghost use Rattle.std.specs.Prelude.{List, ◌≡◌, ℕ, ◌≤◌, T, length};
 ghost use Rattle.algebra.specs.Expr.{Expr, var, 𝟏, ◌⊞◌, ⊟, ◌⊠◌, eval, same, Holds, Follows};
 ghost use Rattle.algebra.specs.Polynomial.{Apart, Agree};

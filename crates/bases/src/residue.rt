@@ -37,7 +37,7 @@ impl<M: Modulus> Residue<M> {
 
     // The residue of any number, which holds its remainder.
     pub fn of(n: u32) -> Residue<M>
-        ensures { result.value ≡ n % M.Modulus.m }
+        ensures { result.value ≡ n % M.m }
     {
         Residue {
             value: n % M::modulus(),
@@ -47,11 +47,11 @@ impl<M: Modulus> Residue<M> {
 }
 
 impl<M: Modulus> System for Residue<M> {
-    ghost sys = { residues M.Modulus.m M.Modulus.bounds.low };
+    ghost sys = { residues M.m M.bounds.low };
 
-    ghost mean = { λ a. res M.Modulus.m M.Modulus.bounds.low a.value };
+    ghost mean = { λ a. res M.m M.bounds.low a.value };
 
-    ghost lawful = { residues_lawful M.Modulus.m M.Modulus.bounds.low };
+    ghost lawful = { residues_lawful M.m M.bounds.low };
 
     fn zero() -> Residue<M> {
         Residue {

@@ -1,4 +1,6 @@
 // The calculator's program: it reads lines from standard input and prints each with its answer, and at the end how many there were of each kind.
+#![tactic(auto)]
+
 use calculator::line::Tally;
 use calculator::respond::{passed_over, respond};
 use std::io::{BufRead, BufReader};

@@ -15,7 +15,7 @@ use std::alloc::{AllocError, Global};
 
 // The elements that two lists mean. Both lengths are tested before any number is.
 fn two<S: Listed>(left: &[u64], right: &[u64]) -> Result<(S, S), Refusal>
-    ensures { elim result [ Ok p ↦ (S.System.sys.list (S.System.mean p.0) ≡ left.now) × (S.System.sys.list (S.System.mean p.1) ≡ right.now) | Err e ↦ Refused S.System.sys (left.now ∷ right.now ∷ []) e ] }
+    ensures { elim result [ Ok p ↦ (S.sys.list (S.mean p.0) ≡ left.now) × (S.sys.list (S.mean p.1) ≡ right.now) | Err e ↦ Refused S.sys (left.now ∷ right.now ∷ []) e ] }
 {
     let size = S::size();
     if left.len() != size || right.len() != size {
@@ -32,7 +32,7 @@ fn two<S: Listed>(left: &[u64], right: &[u64]) -> Result<(S, S), Refusal>
 
 // What the call gives in the system.
 fn answer<S: Listed>(call: &Call<Vec<u64>>) -> Result<S, Refusal>
-    ensures { elim result [ Ok x ↦ Gives S.System.sys (shown vec_items call.now) (S.System.mean x) | Err e ↦ Stops S.System.sys (shown vec_items call.now) e ] }
+    ensures { elim result [ Ok x ↦ Gives S.sys (shown vec_items call.now) (S.mean x) | Err e ↦ Stops S.sys (shown vec_items call.now) e ] }
 {
     match call {
         Call::Sum(l, k) => {
@@ -59,7 +59,7 @@ fn answer<S: Listed>(call: &Call<Vec<u64>>) -> Result<S, Refusal>
 
 // The numbers of an element's list.
 fn numbers<S: Listed>(heap: Global, x: &S) -> Result<Vec<u64>, AllocError>
-    ensures { IfOk result (λ v. v.items ≡ S.System.sys.list (S.System.mean x.now)) }
+    ensures { IfOk result (λ v. v.items ≡ S.sys.list (S.mean x.now)) }
 {
     let mut found = Vec::new(heap);
     for i in 0..S::size() {
@@ -70,7 +70,7 @@ fn numbers<S: Listed>(heap: Global, x: &S) -> Result<Vec<u64>, AllocError>
 
 // The list of what the call gives in the system.
 fn listed<S: Listed>(heap: Global, call: &Call<Vec<u64>>) -> Result<Vec<u64>, Halt>
-    ensures { Worked vec_items S.System.sys (shown vec_items call.now) result }
+    ensures { Worked vec_items S.sys (shown vec_items call.now) result }
 {
     match answer::<S>(call) {
         Err(refusal) => Err(Halt::Refused(refusal)),

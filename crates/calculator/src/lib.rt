@@ -1,4 +1,6 @@
 // A calculator for the bases: it reads a command from a line, works it out, and says what comes of it.
+#![tactic(auto)]
+
 pub mod command;
 pub mod evaluate;
 pub mod line;

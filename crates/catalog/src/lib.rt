@@ -1,4 +1,6 @@
 // The number systems that the handsets use.
+#![tactic(auto)]
+
 pub mod constants;
 pub mod roots;
 pub mod systems;

@@ -10,7 +10,7 @@ use numbers::system::System;
 
 // The product of a0 + a1 X + a2 X² and b0 + b1 X + b2 X², by Karatsuba's method.
 pub fn cubic_mul<S: System>(a: &Triple<S>, b: &Triple<S>, w: &S) -> Triple<S>
-    ensures { triple mean result ≡ binomial 3 sys.ops (mean w.now) (triple mean a.now) (triple mean b.now) }
+    ensures { triple S.mean result ≡ binomial 3 S.sys.ops (S.mean w.now) (triple S.mean a.now) (triple S.mean b.now) }
 {
     let a0_b0 = a.c0.mul(&b.c0);
     let a1_b1 = a.c1.mul(&b.c1);
@@ -43,7 +43,7 @@ pub fn cubic_mul<S: System>(a: &Triple<S>, b: &Triple<S>, w: &S) -> Triple<S>
 
 // The square of a0 + a1 X + a2 X².
 pub fn cubic_square<S: System>(a: &Triple<S>, w: &S) -> Triple<S>
-    ensures { triple mean result ≡ binomial 3 sys.ops (mean w.now) (triple mean a.now) (triple mean a.now) }
+    ensures { triple S.mean result ≡ binomial 3 S.sys.ops (S.mean w.now) (triple S.mean a.now) (triple S.mean a.now) }
 {
     let w_a2 = a.c2.mul(w);
     let a1_w_a2 = a.c1.mul(&w_a2);
@@ -58,7 +58,7 @@ pub fn cubic_square<S: System>(a: &Triple<S>, w: &S) -> Triple<S>
 
 // The norm of a0 + a1 X + a2 X², a0³ + w a1³ + w² a2³ − 3 w a0 a1 a2.
 pub fn cubic_norm<S: System>(a: &Triple<S>, w: &S) -> S
-    ensures { mean result ≡ norm sys.ops (mean w.now) (triple mean a.now) }
+    ensures { S.mean result ≡ norm S.sys.ops (S.mean w.now) (triple S.mean a.now) }
 {
     let a0_square = a.c0.square();
     let a1_square = a.c1.square();
@@ -76,7 +76,7 @@ pub fn cubic_norm<S: System>(a: &Triple<S>, w: &S) -> S
 // The inverse of a0 + a1 X + a2 X²: the adjugate (a0² − w a1 a2) + (w a2² − a0 a1) X + (a1² − a0 a2) X² over the norm;
 // none exactly where no element is one.
 pub fn cubic_inv<S: System>(a: &Triple<S>, w: &S) -> Option<Triple<S>>
-    ensures { elim result [ Some b ↦ Inverts (binomial_extension 2 sys (mean w.now)).ops (triple mean a.now) (triple mean b) | None ↦ NoInverse (binomial_extension 2 sys (mean w.now)).ops (triple mean a.now) ] }
+    ensures { elim result [ Some b ↦ Inverts (binomial_extension 2 S.sys (S.mean w.now)).ops (triple S.mean a.now) (triple S.mean b) | None ↦ NoInverse (binomial_extension 2 S.sys (S.mean w.now)).ops (triple S.mean a.now) ] }
 {
     let Some(scalar) = cubic_norm(a, w).inverse() else {
         return None;

@@ -18,9 +18,9 @@ impl<S: System, C: CubicConstants<S>> Extension<S> for Cubic<S, C> {
 
     ghost coefficients = { λ a. triple (λ x. x) a.value };
 
-    ghost product = { λ A o m. binomial 3 o (m C.CubicConstants.w) };
+    ghost product = { λ A o m. binomial 3 o (m C.w) };
 
-    ghost extends = { (lit≤ tt, binomial_extends 2 cubic_passes S.System.sys S.System.lawful (S.System.mean C.CubicConstants.w), λ a. refl) };
+    ghost extends = { (lit≤ tt, binomial_extends 2 cubic_passes S.sys S.lawful (S.mean C.w), λ a. refl) };
 
     fn degree() -> usize {
         3

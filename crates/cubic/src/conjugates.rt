@@ -13,7 +13,7 @@ pub trait CubicConjugates<S: System>: CubicConstants<S> {
     // The root keeps its law: z^3 is one, and z^i − 1 has an inverse for each i from 1 to 2.
     fn z() -> S
         ensures value { result ≡ z }
-        ensures root { RootLaw S.System.sys.ops 3 (S.System.mean result) };
+        ensures root { RootLaw S.sys.ops 3 (S.mean result) };
 }
 
 impl<S: System, C: CubicConjugates<S>> Conjugates<S> for Cubic<S, C> {

@@ -27,11 +27,11 @@ pub struct Cubic<S, C> {
 
 // The elements are a number system: sums go coefficient by coefficient, and products are taken modulo X³ − w.
 impl<S: System, C: CubicConstants<S>> System for Cubic<S, C> {
-    ghost sys = { binomial_extension 2 S.System.sys (S.System.mean C.CubicConstants.w) };
+    ghost sys = { binomial_extension 2 S.sys (S.mean C.w) };
 
-    ghost mean = { λ a. triple S.System.mean a.value };
+    ghost mean = { λ a. triple S.mean a.value };
 
-    ghost lawful = { binomial_lawful 2 cubic_passes S.System.sys S.System.lawful (S.System.mean C.CubicConstants.w) };
+    ghost lawful = { binomial_lawful 2 cubic_passes S.sys S.lawful (S.mean C.w) };
 
     fn zero() -> Cubic<S, C> {
         Cubic {

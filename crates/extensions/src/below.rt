@@ -9,7 +9,7 @@ use numbers::system::System;
 
 // An element of the layer below: zeros above power 0.
 pub fn from_base<S: System, E: Extension<S>>(x: S) -> E
-    ensures { each (suc d) S.System.mean (coefficients result) ≡ embed d S.System.sys.ops (S.System.mean x) }
+    ensures { each (suc E.d) S.mean (E.coefficients result) ≡ embed E.d S.sys.ops (S.mean x) }
 {
     let mut res = E::zero();
     res.set_coefficient(0, x);
@@ -18,7 +18,7 @@ pub fn from_base<S: System, E: Extension<S>>(x: S) -> E
 
 // Each coefficient times one element of the layer below.
 pub fn scale<S: System, E: Extension<S>>(a: &E, x: &S) -> E
-    ensures { each (suc d) S.System.mean (coefficients result) ≡ scaled (suc d) S.System.sys.ops (S.System.mean x.now) (each (suc d) S.System.mean (coefficients a.now)) }
+    ensures { each (suc E.d) S.mean (E.coefficients result) ≡ scaled (suc E.d) S.sys.ops (S.mean x.now) (each (suc E.d) S.mean (E.coefficients a.now)) }
 {
     let mut res = E::zero();
     for k in 0..E::degree() {
@@ -29,8 +29,8 @@ pub fn scale<S: System, E: Extension<S>>(a: &E, x: &S) -> E
 
 // Whether every coefficient above power 0 is zero.
 pub fn is_in_basefield<S: System, E: Extension<S>>(a: &E) -> bool
-    ensures within { T result → each (suc d) S.System.mean (coefficients a.now) ≡ embed d S.System.sys.ops (each (suc d) S.System.mean (coefficients a.now)).0 }
-    ensures beyond { each (suc d) S.System.mean (coefficients a.now) ≡ embed d S.System.sys.ops (each (suc d) S.System.mean (coefficients a.now)).0 → T result }
+    ensures within { T result → each (suc E.d) S.mean (E.coefficients a.now) ≡ embed E.d S.sys.ops (each (suc E.d) S.mean (E.coefficients a.now)).0 }
+    ensures beyond { each (suc E.d) S.mean (E.coefficients a.now) ≡ embed E.d S.sys.ops (each (suc E.d) S.mean (E.coefficients a.now)).0 → T result }
 {
     let zero = S::zero();
     for k in 1..E::degree() {
@@ -43,7 +43,7 @@ pub fn is_in_basefield<S: System, E: Extension<S>>(a: &E) -> bool
 
 // The element of the layer below that this one is, if it is one.
 pub fn as_base<S: System, E: Extension<S>>(a: &E) -> Option<S>
-    ensures { elim result [ Some x ↦ each (suc d) S.System.mean (coefficients a.now) ≡ embed d S.System.sys.ops (S.System.mean x) | None ↦ ((x : S.System.sys.Elem) → each (suc d) S.System.mean (coefficients a.now) ≢ embed d S.System.sys.ops x) ] }
+    ensures { elim result [ Some x ↦ each (suc E.d) S.mean (E.coefficients a.now) ≡ embed E.d S.sys.ops (S.mean x) | None ↦ ((x : S.sys.Elem) → each (suc E.d) S.mean (E.coefficients a.now) ≢ embed E.d S.sys.ops x) ] }
 {
     if is_in_basefield(a) {
         Some(a.coefficient(0))
@@ -54,7 +54,7 @@ pub fn as_base<S: System, E: Extension<S>>(a: &E) -> Option<S>
 
 // The sum with an element of the layer below.
 pub fn add_base<S: System, E: Extension<S>>(a: &E, x: &S) -> E
-    ensures { each (suc d) S.System.mean (coefficients result) ≡ both (suc d) S.System.sys.ops.add (each (suc d) S.System.mean (coefficients a.now)) (embed d S.System.sys.ops (S.System.mean x.now)) }
+    ensures { each (suc E.d) S.mean (E.coefficients result) ≡ both (suc E.d) S.sys.ops.add (each (suc E.d) S.mean (E.coefficients a.now)) (embed E.d S.sys.ops (S.mean x.now)) }
 {
     let mut res = *a;
     res.set_coefficient(0, a.coefficient(0).add(x));
@@ -63,7 +63,7 @@ pub fn add_base<S: System, E: Extension<S>>(a: &E, x: &S) -> E
 
 // The difference to an element of the layer below.
 pub fn sub_base<S: System, E: Extension<S>>(a: &E, x: &S) -> E
-    ensures { each (suc d) S.System.mean (coefficients result) ≡ both (suc d) (sub S.System.sys.ops) (each (suc d) S.System.mean (coefficients a.now)) (embed d S.System.sys.ops (S.System.mean x.now)) }
+    ensures { each (suc E.d) S.mean (E.coefficients result) ≡ both (suc E.d) (sub S.sys.ops) (each (suc E.d) S.mean (E.coefficients a.now)) (embed E.d S.sys.ops (S.mean x.now)) }
 {
     let mut res = *a;
     res.set_coefficient(0, a.coefficient(0).sub(x));

@@ -16,17 +16,17 @@ pub trait Conjugates<S: System>: Extension<S> {
     // The Frobenius image. The map keeps sums and products, gives every element back after as many applications as the degree, and leaves exactly the elements of
     // the layer below where they are.
     fn frobenius(&self) -> Self
-        ensures image { each (suc Self.Extension.d) S.System.mean (Self.Extension.coefficients result) ≡ conjugate (suc Self.Extension.d) S.System.sys.Elem S.System.sys.ops S.System.mean (each (suc Self.Extension.d) S.System.mean (Self.Extension.coefficients self.now)) }
-        ensures conjugation { Conjugation Self.Extension.d S.System.sys.ops (Self.Extension.product S.System.sys.Elem S.System.sys.ops S.System.mean) (conjugate (suc Self.Extension.d) S.System.sys.Elem S.System.sys.ops S.System.mean) };
+        ensures image { each (suc Self.Extension.d) S.mean (Self.Extension.coefficients result) ≡ conjugate (suc Self.Extension.d) S.sys.Elem S.sys.ops S.mean (each (suc Self.Extension.d) S.mean (Self.Extension.coefficients self.now)) }
+        ensures conjugation { Conjugation Self.Extension.d S.sys.ops (Self.Extension.product S.sys.Elem S.sys.ops S.mean) (conjugate (suc Self.Extension.d) S.sys.Elem S.sys.ops S.mean) };
 
     // The Frobenius image taken `count` times.
     fn repeated_frobenius(&self, count: u64) -> Self
-        ensures { each (suc Self.Extension.d) S.System.mean (Self.Extension.coefficients result) ≡ repeated (conjugate (suc Self.Extension.d) S.System.sys.Elem S.System.sys.ops S.System.mean) count (each (suc Self.Extension.d) S.System.mean (Self.Extension.coefficients self.now)) };
+        ensures { each (suc Self.Extension.d) S.mean (Self.Extension.coefficients result) ≡ repeated (conjugate (suc Self.Extension.d) S.sys.Elem S.sys.ops S.mean) count (each (suc Self.Extension.d) S.mean (Self.Extension.coefficients self.now)) };
 }
 
 // The image by a root z of one: coefficient i times z^i.
 pub fn root_frobenius<S: System, E: Extension<S>>(a: &E, z: &S) -> E
-    ensures { each (suc d) S.System.mean (coefficients result) ≡ root_frobenius_map (suc d) S.System.sys.ops (S.System.mean z.now) (each (suc d) S.System.mean (coefficients a.now)) }
+    ensures { each (suc E.d) S.mean (E.coefficients result) ≡ root_frobenius_map (suc E.d) S.sys.ops (S.mean z.now) (each (suc E.d) S.mean (E.coefficients a.now)) }
 {
     let mut powers = Powers::new(*z);
     let mut res = E::zero();
@@ -38,7 +38,7 @@ pub fn root_frobenius<S: System, E: Extension<S>>(a: &E, z: &S) -> E
 
 // That image taken `count` times, where z keeps the root law: as many applications as the degree give every element back.
 pub fn root_repeated_frobenius<S: System, E: Extension<S>>(a: &E, z: &S, count: u64) -> E
-    ensures { RootLaw S.System.sys.ops (suc d) (S.System.mean z.now) → each (suc d) S.System.mean (coefficients result) ≡ repeated (root_frobenius_map (suc d) S.System.sys.ops (S.System.mean z.now)) count (each (suc d) S.System.mean (coefficients a.now)) }
+    ensures { RootLaw S.sys.ops (suc E.d) (S.mean z.now) → each (suc E.d) S.mean (E.coefficients result) ≡ repeated (root_frobenius_map (suc E.d) S.sys.ops (S.mean z.now)) count (each (suc E.d) S.mean (E.coefficients a.now)) }
 {
     let z0 = exp_u64(z, count % E::degree() as u64);
     root_frobenius(a, &z0)
@@ -46,8 +46,8 @@ pub fn root_repeated_frobenius<S: System, E: Extension<S>>(a: &E, z: &S, count: 
 
 // The product of all conjugates of a but itself.
 fn other_conjugates<S: System, E: Conjugates<S>>(a: &E) -> E
-    ensures product { each (suc E.Extension.d) S.System.mean (E.Extension.coefficients result) ≡ conjugate (suc E.Extension.d) S.System.sys.Elem S.System.sys.ops S.System.mean (conjugates (extend E.Extension.d S.System.sys.ops (E.Extension.product S.System.sys.Elem S.System.sys.ops S.System.mean)) (conjugate (suc E.Extension.d) S.System.sys.Elem S.System.sys.ops S.System.mean) E.Extension.d (each (suc E.Extension.d) S.System.mean (E.Extension.coefficients a.now))) }
-    ensures conjugation { Conjugation E.Extension.d S.System.sys.ops (E.Extension.product S.System.sys.Elem S.System.sys.ops S.System.mean) (conjugate (suc E.Extension.d) S.System.sys.Elem S.System.sys.ops S.System.mean) }
+    ensures product { each (suc E.d) S.mean (E.coefficients result) ≡ E.conjugate (suc E.d) S.sys.Elem S.sys.ops S.mean (conjugates (extend E.d S.sys.ops (E.product S.sys.Elem S.sys.ops S.mean)) (E.conjugate (suc E.d) S.sys.Elem S.sys.ops S.mean) E.d (each (suc E.d) S.mean (E.coefficients a.now))) }
+    ensures conjugation { Conjugation E.d S.sys.ops (E.product S.sys.Elem S.sys.ops S.mean) (E.conjugate (suc E.d) S.sys.Elem S.sys.ops S.mean) }
 {
     let mut prod_conj = a.frobenius();
     for _k in 2..E::degree() {
@@ -59,7 +59,7 @@ fn other_conjugates<S: System, E: Conjugates<S>>(a: &E) -> E
 // The conjugate inverse: zero for zero; for any other element the product of its other conjugates over the norm, which lies in the layer below; none where no
 // element is an inverse.
 pub fn pseudo_inv<S: System, E: Conjugates<S>>(a: &E) -> Option<E>
-    ensures { elim result [ Some b ↦ PseudoInverse E.System.sys.ops (E.System.mean a.now) (E.System.mean b) | None ↦ NoPseudoInverse E.System.sys.ops (E.System.mean a.now) ] }
+    ensures { elim result [ Some b ↦ PseudoInverse E.sys.ops (E.mean a.now) (E.mean b) | None ↦ NoPseudoInverse E.sys.ops (E.mean a.now) ] }
 {
     let zero = E::zero();
     if a.same(&zero) {

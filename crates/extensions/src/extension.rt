@@ -20,11 +20,11 @@ pub trait Extension<S: System>: System {
 
     // The coefficient at power k, which is zero beyond the last.
     fn coefficient(&self, k: usize) -> S
-        ensures { S.System.mean result ≡ slice_index_or (entries (suc d) (each (suc d) S.System.mean (coefficients self.now))) k S.System.sys.ops.zero };
+        ensures { S.mean result ≡ slice_index_or (entries (suc d) (each (suc d) S.mean (coefficients self.now))) k S.sys.ops.zero };
 
     // Puts x at power k; beyond the last power nothing changes.
     fn set_coefficient(&mut self, k: usize, x: S)
         ensures { entries (suc d) (coefficients self.new) ≡ slice_set (entries (suc d) (coefficients self.old)) k x };
 
-    ghost extends: { (1 ≤ d) × (e : Extends d S.System.sys (product S.System.sys.Elem S.System.sys.ops S.System.mean) Self.System.sys) × ((a : Self) → e.tuple (Self.System.mean a) ≡ each (suc d) S.System.mean (coefficients a)) };
+    ghost extends: { (1 ≤ d) × (e : Extends d S.sys (product S.sys.Elem S.sys.ops S.mean) Self.System.sys) × ((a : Self) → e.tuple (Self.System.mean a) ≡ each (suc d) S.mean (coefficients a)) };
 }

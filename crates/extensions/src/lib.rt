@@ -1,5 +1,7 @@
 // Extensions of number systems: what they are, and what holds of all of them. The functions do nothing when they run; their contracts are theorems over every
 // commutative ring on the type `A`. The code of the extensions stands in crates above this one.
+#![tactic(auto)]
+
 pub mod below;
 pub mod conjugates;
 pub mod extension;

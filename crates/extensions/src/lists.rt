@@ -11,14 +11,14 @@ const SHOWN: usize = 65_535;
 
 // The length of an element's list, which stops at 65,535.
 pub fn extension_size<S: PrefixListed, E: Extension<S>>() -> usize
-    ensures { result ≡ min E.System.sys.size 65535 }
+    ensures { result ≡ min E.sys.size 65535 }
 {
     E::degree().saturating_mul(S::size()).min(SHOWN)
 }
 
 // The element that means this list, or the refusal: `CutList` for a wrong length, then `OverLimit`.
 pub fn extension_from_list<S: PrefixListed, E: Extension<S>>(numbers: &[u64]) -> Result<E, Refusal>
-    ensures { elim result [ Ok v ↦ E.System.sys.list (E.System.mean v) ≡ numbers.now | Err e ↦ Refused E.System.sys (numbers.now ∷ []) e ] }
+    ensures { elim result [ Ok v ↦ E.sys.list (E.mean v) ≡ numbers.now | Err e ↦ Refused E.sys (numbers.now ∷ []) e ] }
 {
     let degree = E::degree();
     if numbers.len() % degree != 0 {
@@ -38,7 +38,7 @@ pub fn extension_from_list<S: PrefixListed, E: Extension<S>>(numbers: &[u64]) ->
 
 // The number at one of the first 65,535 places of the element's list, and zero beyond these or its end.
 pub fn extension_number_at<S: PrefixListed, E: Extension<S>>(a: &E, place: usize) -> u32
-    ensures { result ≡ slice_index (take 65535 (E.System.sys.list (E.System.mean a.now))) place }
+    ensures { result ≡ slice_index (take 65535 (E.sys.list (E.mean a.now))) place }
 {
     let part = S::size();
     let power = place / part;

@@ -6,7 +6,7 @@ use numbers::prefix_listed::PrefixListed;
 
 // The product of the elements that mean two lists; none where a list is no element.
 pub fn product<S: PrefixListed>(left: &[u64], right: &[u64]) -> Option<S>
-    ensures { ProductOf S.System.sys S.System.mean left.now right.now result }
+    ensures { ProductOf S.sys S.mean left.now right.now result }
 {
     let Ok(a) = S::from_list(left) else {
         return None;
@@ -19,7 +19,7 @@ pub fn product<S: PrefixListed>(left: &[u64], right: &[u64]) -> Option<S>
 
 // The square of the element that means a list; none where the list is no element.
 pub fn square<S: PrefixListed>(list: &[u64]) -> Option<S>
-    ensures { ProductOf S.System.sys S.System.mean list.now list.now result }
+    ensures { ProductOf S.sys S.mean list.now list.now result }
 {
     let Ok(a) = S::from_list(list) else {
         return None;
@@ -29,7 +29,7 @@ pub fn square<S: PrefixListed>(list: &[u64]) -> Option<S>
 
 // The inverse of the element that means a list; none where no element is one, and where the list is no element.
 pub fn inverse<S: PrefixListed>(list: &[u64]) -> Option<S>
-    ensures { InverseOf S.System.sys S.System.mean list.now result }
+    ensures { InverseOf S.sys S.mean list.now result }
 {
     let Ok(a) = S::from_list(list) else {
         return None;

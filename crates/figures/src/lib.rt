@@ -1,4 +1,6 @@
 // Figures that were worked out by hand, as the definitions have them and as the code gives them.
+#![tactic(auto)]
+
 pub mod answers;
 pub mod arithmetic;
 pub mod readings;

@@ -7,7 +7,7 @@ use crate::system::System;
 
 // The sum of two products, a0 × b0 + a1 × b1.
 pub fn dot_product_2<S: System>(a0: &S, b0: &S, a1: &S, b1: &S) -> S
-    ensures { mean result ≡ dot sys.ops (mean a0.now ∷ mean a1.now ∷ []) (mean b0.now ∷ mean b1.now ∷ []) }
+    ensures { S.mean result ≡ dot S.sys.ops (S.mean a0.now ∷ S.mean a1.now ∷ []) (S.mean b0.now ∷ S.mean b1.now ∷ []) }
 {
     let zero = S::zero();
     S::dot_product_4(a0, b0, a1, b1, &zero, &zero, &zero, &zero)
@@ -15,7 +15,7 @@ pub fn dot_product_2<S: System>(a0: &S, b0: &S, a1: &S, b1: &S) -> S
 
 // The sum of three products, a0 × b0 + a1 × b1 + a2 × b2.
 pub fn dot_product_3<S: System>(a0: &S, b0: &S, a1: &S, b1: &S, a2: &S, b2: &S) -> S
-    ensures { mean result ≡ dot sys.ops (mean a0.now ∷ mean a1.now ∷ mean a2.now ∷ []) (mean b0.now ∷ mean b1.now ∷ mean b2.now ∷ []) }
+    ensures { S.mean result ≡ dot S.sys.ops (S.mean a0.now ∷ S.mean a1.now ∷ S.mean a2.now ∷ []) (S.mean b0.now ∷ S.mean b1.now ∷ S.mean b2.now ∷ []) }
 {
     let zero = S::zero();
     S::dot_product_4(a0, b0, a1, b1, a2, b2, &zero, &zero)
@@ -34,7 +34,7 @@ pub fn dot_product_5<S: System>(
     a4: &S,
     b4: &S,
 ) -> S
-    ensures { mean result ≡ dot sys.ops (mean a0.now ∷ mean a1.now ∷ mean a2.now ∷ mean a3.now ∷ mean a4.now ∷ []) (mean b0.now ∷ mean b1.now ∷ mean b2.now ∷ mean b3.now ∷ mean b4.now ∷ []) }
+    ensures { S.mean result ≡ dot S.sys.ops (S.mean a0.now ∷ S.mean a1.now ∷ S.mean a2.now ∷ S.mean a3.now ∷ S.mean a4.now ∷ []) (S.mean b0.now ∷ S.mean b1.now ∷ S.mean b2.now ∷ S.mean b3.now ∷ S.mean b4.now ∷ []) }
 {
     let low = S::dot_product_4(a0, b0, a1, b1, a2, b2, a3, b3);
     let high = a4.mul(b4);
@@ -56,7 +56,7 @@ pub fn dot_product_6<S: System>(
     a5: &S,
     b5: &S,
 ) -> S
-    ensures { mean result ≡ dot sys.ops (mean a0.now ∷ mean a1.now ∷ mean a2.now ∷ mean a3.now ∷ mean a4.now ∷ mean a5.now ∷ []) (mean b0.now ∷ mean b1.now ∷ mean b2.now ∷ mean b3.now ∷ mean b4.now ∷ mean b5.now ∷ []) }
+    ensures { S.mean result ≡ dot S.sys.ops (S.mean a0.now ∷ S.mean a1.now ∷ S.mean a2.now ∷ S.mean a3.now ∷ S.mean a4.now ∷ S.mean a5.now ∷ []) (S.mean b0.now ∷ S.mean b1.now ∷ S.mean b2.now ∷ S.mean b3.now ∷ S.mean b4.now ∷ S.mean b5.now ∷ []) }
 {
     let low = S::dot_product_4(a0, b0, a1, b1, a2, b2, a3, b3);
     let high = dot_product_2(a4, b4, a5, b5);
@@ -80,7 +80,7 @@ pub fn dot_product_7<S: System>(
     a6: &S,
     b6: &S,
 ) -> S
-    ensures { mean result ≡ dot sys.ops (mean a0.now ∷ mean a1.now ∷ mean a2.now ∷ mean a3.now ∷ mean a4.now ∷ mean a5.now ∷ mean a6.now ∷ []) (mean b0.now ∷ mean b1.now ∷ mean b2.now ∷ mean b3.now ∷ mean b4.now ∷ mean b5.now ∷ mean b6.now ∷ []) }
+    ensures { S.mean result ≡ dot S.sys.ops (S.mean a0.now ∷ S.mean a1.now ∷ S.mean a2.now ∷ S.mean a3.now ∷ S.mean a4.now ∷ S.mean a5.now ∷ S.mean a6.now ∷ []) (S.mean b0.now ∷ S.mean b1.now ∷ S.mean b2.now ∷ S.mean b3.now ∷ S.mean b4.now ∷ S.mean b5.now ∷ S.mean b6.now ∷ []) }
 {
     let low = S::dot_product_4(a0, b0, a1, b1, a2, b2, a3, b3);
     let high = dot_product_3(a4, b4, a5, b5, a6, b6);
@@ -106,7 +106,7 @@ pub fn dot_product_8<S: System>(
     a7: &S,
     b7: &S,
 ) -> S
-    ensures { mean result ≡ dot sys.ops (mean a0.now ∷ mean a1.now ∷ mean a2.now ∷ mean a3.now ∷ mean a4.now ∷ mean a5.now ∷ mean a6.now ∷ mean a7.now ∷ []) (mean b0.now ∷ mean b1.now ∷ mean b2.now ∷ mean b3.now ∷ mean b4.now ∷ mean b5.now ∷ mean b6.now ∷ mean b7.now ∷ []) }
+    ensures { S.mean result ≡ dot S.sys.ops (S.mean a0.now ∷ S.mean a1.now ∷ S.mean a2.now ∷ S.mean a3.now ∷ S.mean a4.now ∷ S.mean a5.now ∷ S.mean a6.now ∷ S.mean a7.now ∷ []) (S.mean b0.now ∷ S.mean b1.now ∷ S.mean b2.now ∷ S.mean b3.now ∷ S.mean b4.now ∷ S.mean b5.now ∷ S.mean b6.now ∷ S.mean b7.now ∷ []) }
 {
     let low = S::dot_product_4(a0, b0, a1, b1, a2, b2, a3, b3);
     let high = S::dot_product_4(a4, b4, a5, b5, a6, b6, a7, b7);

@@ -8,7 +8,7 @@ use crate::system::System;
 
 // The sum of all elements of a list; with none it is zero.
 pub fn sum<S: System>(elements: &[S]) -> S
-    ensures { mean result ≡ total sys.ops (map mean elements.now) }
+    ensures { S.mean result ≡ total S.sys.ops (map S.mean elements.now) }
 {
     let mut all = S::zero();
     for x in elements {
@@ -19,7 +19,7 @@ pub fn sum<S: System>(elements: &[S]) -> S
 
 // The product of all elements of a list; with none it is one.
 pub fn product<S: System>(elements: &[S]) -> S
-    ensures { mean result ≡ product sys.ops (map mean elements.now) }
+    ensures { S.mean result ≡ product S.sys.ops (map S.mean elements.now) }
 {
     let mut all = S::one();
     for x in elements {
@@ -30,7 +30,7 @@ pub fn product<S: System>(elements: &[S]) -> S
 
 // The product of a with the inverse of b; refused exactly where b has none.
 pub fn div<S: System>(a: &S, b: &S) -> Result<S, Refusal>
-    ensures { elim result [ Ok q ↦ ((c : sys.Elem) → Inverts sys.ops (mean b.now) c → mean q ≡ sys.ops.mul (mean a.now) c) × (sys.ops.mul (mean q) (mean b.now) ≡ mean a.now) | Err e ↦ NoInverse sys.ops (mean b.now) × (e ≡ Refusal.NoInverse) ] }
+    ensures { elim result [ Ok q ↦ ((c : S.sys.Elem) → Inverts S.sys.ops (S.mean b.now) c → S.mean q ≡ S.sys.ops.mul (S.mean a.now) c) × (S.sys.ops.mul (S.mean q) (S.mean b.now) ≡ S.mean a.now) | Err e ↦ NoInverse S.sys.ops (S.mean b.now) × (e ≡ Refusal.NoInverse) ] }
 {
     let Some(inverse) = b.inverse() else {
         return Err(Refusal::NoInverse);

@@ -6,7 +6,7 @@ use crate::system::System;
 
 // The product of an element with itself.
 pub fn square<S: System>(a: &S) -> S
-    ensures { mean result ≡ sys.ops.mul (mean a.now) (mean a.now) }
+    ensures { S.mean result ≡ S.sys.ops.mul (S.mean a.now) (S.mean a.now) }
 {
     a.mul(a)
 }
@@ -22,7 +22,7 @@ pub fn bits_u64(n: u64) -> u32
 
 // The product of `exponent` factors `base`, by squaring and multiplying; with no factor it is one.
 pub fn exp_u64<S: System>(base: &S, exponent: u64) -> S
-    ensures { mean result ≡ power sys.ops (mean base.now) exponent }
+    ensures { S.mean result ≡ power S.sys.ops (S.mean base.now) exponent }
 {
     let mut current = *base;
     let mut product = S::one();
@@ -45,7 +45,7 @@ pub struct Powers<S> {
 impl<S: System> Powers<S> {
     // one, base, base², ..
     pub fn new(base: S) -> Powers<S>
-        ensures { (result.base ≡ base) × (mean result.current ≡ sys.ops.one) }
+        ensures { (result.base ≡ base) × (S.mean result.current ≡ S.sys.ops.one) }
     {
         Powers {
             base,
@@ -66,7 +66,7 @@ impl<S: System> Powers<S> {
     // The current element, which is then multiplied by the base.
     pub fn next(&mut self) -> S
         ensures answer { result ≡ self.old.current }
-        ensures current { mean self.new.current ≡ sys.ops.mul (mean self.old.current) (mean self.old.base) }
+        ensures current { S.mean self.new.current ≡ S.sys.ops.mul (S.mean self.old.current) (S.mean self.old.base) }
         ensures base { self.new.base ≡ self.old.base }
     {
         let answer = self.current;
@@ -76,8 +76,8 @@ impl<S: System> Powers<S> {
 
     // Fills a list with what the next calls would answer: at place k the current element times the k-th power of the base.
     pub fn fill(&mut self, out: &mut [S])
-        ensures items { (k : ℕ) (d : S) → k < length out.new → mean (slice_index_or out.new k d) ≡ sys.ops.mul (mean self.old.current) (power sys.ops (mean self.old.base) k) }
-        ensures current { mean self.new.current ≡ sys.ops.mul (mean self.old.current) (power sys.ops (mean self.old.base) (length out.old)) }
+        ensures items { (k : ℕ) (d : S) → k < length out.new → S.mean (slice_index_or out.new k d) ≡ S.sys.ops.mul (S.mean self.old.current) (power S.sys.ops (S.mean self.old.base) k) }
+        ensures current { S.mean self.new.current ≡ S.sys.ops.mul (S.mean self.old.current) (power S.sys.ops (S.mean self.old.base) (length out.old)) }
         ensures base { self.new.base ≡ self.old.base }
     {
         for i in 0..out.len() {

@@ -16,7 +16,7 @@ use quartic::quadruple::Quadruple;
 
 // The constant coefficient of a product, a0 b0 + w (a1 b7 + .. + a7 b1).
 fn compute_coefficient_0<S: System>(a: &Octuple<S>, b: &Octuple<S>, w: &S) -> S
-    ensures { mean result ≡ (binomial 8 sys.ops (mean w.now) (octuple mean a.now) (octuple mean b.now)).0 }
+    ensures { S.mean result ≡ (binomial 8 S.sys.ops (S.mean w.now) (octuple S.mean a.now) (octuple S.mean b.now)).0 }
 {
     let w_coeff = dot_product_7(
         &a.c1, &b.c7, &a.c2, &b.c6, &a.c3, &b.c5, &a.c4, &b.c4, &a.c5, &b.c3, &a.c6, &b.c2, &a.c7,
@@ -27,7 +27,7 @@ fn compute_coefficient_0<S: System>(a: &Octuple<S>, b: &Octuple<S>, w: &S) -> S
 
 // The linear coefficient of a product, a0 b1 + a1 b0 + w (a2 b7 + .. + a7 b2).
 fn compute_coefficient_1<S: System>(a: &Octuple<S>, b: &Octuple<S>, w: &S) -> S
-    ensures { mean result ≡ (binomial 8 sys.ops (mean w.now) (octuple mean a.now) (octuple mean b.now)).1.0 }
+    ensures { S.mean result ≡ (binomial 8 S.sys.ops (S.mean w.now) (octuple S.mean a.now) (octuple S.mean b.now)).1.0 }
 {
     let w_coeff = dot_product_6(
         &a.c2, &b.c7, &a.c3, &b.c6, &a.c4, &b.c5, &a.c5, &b.c4, &a.c6, &b.c3, &a.c7, &b.c2,
@@ -37,7 +37,7 @@ fn compute_coefficient_1<S: System>(a: &Octuple<S>, b: &Octuple<S>, w: &S) -> S
 
 // The square coefficient of a product, a0 b2 + .. + a2 b0 + w (a3 b7 + .. + a7 b3).
 fn compute_coefficient_2<S: System>(a: &Octuple<S>, b: &Octuple<S>, w: &S) -> S
-    ensures { mean result ≡ (binomial 8 sys.ops (mean w.now) (octuple mean a.now) (octuple mean b.now)).1.1.0 }
+    ensures { S.mean result ≡ (binomial 8 S.sys.ops (S.mean w.now) (octuple S.mean a.now) (octuple S.mean b.now)).1.1.0 }
 {
     let w_coeff = dot_product_5(
         &a.c3, &b.c7, &a.c4, &b.c6, &a.c5, &b.c5, &a.c6, &b.c4, &a.c7, &b.c3,
@@ -47,7 +47,7 @@ fn compute_coefficient_2<S: System>(a: &Octuple<S>, b: &Octuple<S>, w: &S) -> S
 
 // The cube coefficient of a product, a0 b3 + .. + a3 b0 + w (a4 b7 + .. + a7 b4).
 fn compute_coefficient_3<S: System>(a: &Octuple<S>, b: &Octuple<S>, w: &S) -> S
-    ensures { mean result ≡ (binomial 8 sys.ops (mean w.now) (octuple mean a.now) (octuple mean b.now)).1.1.1.0 }
+    ensures { S.mean result ≡ (binomial 8 S.sys.ops (S.mean w.now) (octuple S.mean a.now) (octuple S.mean b.now)).1.1.1.0 }
 {
     let w_coeff = S::dot_product_4(&a.c4, &b.c7, &a.c5, &b.c6, &a.c6, &b.c5, &a.c7, &b.c4);
     dot_product_5(
@@ -57,7 +57,7 @@ fn compute_coefficient_3<S: System>(a: &Octuple<S>, b: &Octuple<S>, w: &S) -> S
 
 // The quartic coefficient of a product, a0 b4 + .. + a4 b0 + w (a5 b7 + .. + a7 b5).
 fn compute_coefficient_4<S: System>(a: &Octuple<S>, b: &Octuple<S>, w: &S) -> S
-    ensures { mean result ≡ (binomial 8 sys.ops (mean w.now) (octuple mean a.now) (octuple mean b.now)).1.1.1.1.0 }
+    ensures { S.mean result ≡ (binomial 8 S.sys.ops (S.mean w.now) (octuple S.mean a.now) (octuple S.mean b.now)).1.1.1.1.0 }
 {
     let w_coeff = dot_product_3(&a.c5, &b.c7, &a.c6, &b.c6, &a.c7, &b.c5);
     dot_product_6(
@@ -67,7 +67,7 @@ fn compute_coefficient_4<S: System>(a: &Octuple<S>, b: &Octuple<S>, w: &S) -> S
 
 // The quintic coefficient of a product, a0 b5 + .. + a5 b0 + w (a6 b7 + a7 b6).
 fn compute_coefficient_5<S: System>(a: &Octuple<S>, b: &Octuple<S>, w: &S) -> S
-    ensures { mean result ≡ (binomial 8 sys.ops (mean w.now) (octuple mean a.now) (octuple mean b.now)).1.1.1.1.1.0 }
+    ensures { S.mean result ≡ (binomial 8 S.sys.ops (S.mean w.now) (octuple S.mean a.now) (octuple S.mean b.now)).1.1.1.1.1.0 }
 {
     let w_coeff = dot_product_2(&a.c6, &b.c7, &a.c7, &b.c6);
     dot_product_7(
@@ -78,7 +78,7 @@ fn compute_coefficient_5<S: System>(a: &Octuple<S>, b: &Octuple<S>, w: &S) -> S
 
 // The sextic coefficient of a product, a0 b6 + .. + a6 b0 + w a7 b7.
 fn compute_coefficient_6<S: System>(a: &Octuple<S>, b: &Octuple<S>, w: &S) -> S
-    ensures { mean result ≡ (binomial 8 sys.ops (mean w.now) (octuple mean a.now) (octuple mean b.now)).1.1.1.1.1.1.0 }
+    ensures { S.mean result ≡ (binomial 8 S.sys.ops (S.mean w.now) (octuple S.mean a.now) (octuple S.mean b.now)).1.1.1.1.1.1.0 }
 {
     let b7_w = w.mul(&b.c7);
     dot_product_8(
@@ -89,7 +89,7 @@ fn compute_coefficient_6<S: System>(a: &Octuple<S>, b: &Octuple<S>, w: &S) -> S
 
 // The last coefficient of a product, a0 b7 + .. + a7 b0.
 fn compute_coefficient_7<S: System>(a: &Octuple<S>, b: &Octuple<S>, w: &S) -> S
-    ensures { mean result ≡ (binomial 8 sys.ops (mean w.now) (octuple mean a.now) (octuple mean b.now)).1.1.1.1.1.1.1.0 }
+    ensures { S.mean result ≡ (binomial 8 S.sys.ops (S.mean w.now) (octuple S.mean a.now) (octuple S.mean b.now)).1.1.1.1.1.1.1.0 }
 {
     dot_product_8(
         &a.c0, &b.c7, &a.c1, &b.c6, &a.c2, &b.c5, &a.c3, &b.c4, &a.c4, &b.c3, &a.c5, &b.c2, &a.c6,
@@ -99,7 +99,7 @@ fn compute_coefficient_7<S: System>(a: &Octuple<S>, b: &Octuple<S>, w: &S) -> S
 
 // The product of a0 + a1 X + .. + a7 X⁷ and b0 + b1 X + .. + b7 X⁷.
 pub fn octic_mul<S: System>(a: &Octuple<S>, b: &Octuple<S>, w: &S) -> Octuple<S>
-    ensures { octuple mean result ≡ binomial 8 sys.ops (mean w.now) (octuple mean a.now) (octuple mean b.now) }
+    ensures { octuple S.mean result ≡ binomial 8 S.sys.ops (S.mean w.now) (octuple S.mean a.now) (octuple S.mean b.now) }
 {
     Octuple {
         c0: compute_coefficient_0(a, b, w),
@@ -115,7 +115,7 @@ pub fn octic_mul<S: System>(a: &Octuple<S>, b: &Octuple<S>, w: &S) -> Octuple<S>
 
 // The square of a0 + a1 X + .. + a7 X⁷.
 pub fn octic_square<S: System>(a: &Octuple<S>, w: &S) -> Octuple<S>
-    ensures { octuple mean result ≡ binomial 8 sys.ops (mean w.now) (octuple mean a.now) (octuple mean a.now) }
+    ensures { octuple S.mean result ≡ binomial 8 S.sys.ops (S.mean w.now) (octuple S.mean a.now) (octuple S.mean a.now) }
 {
     let a0_2 = a.c0.add(&a.c0);
     let a1_2 = a.c1.add(&a.c1);
@@ -151,7 +151,7 @@ pub fn octic_square<S: System>(a: &Octuple<S>, w: &S) -> Octuple<S>
 // The norm of a0 + a1 X + .. + a7 X⁷: evens² − X² odds², where evens = a0 + a2 X² + a4 X⁴ + a6 X⁶ and odds = a1 + a3 X² + a5 X⁴ + a7 X⁶, by its
 // coefficients of X⁰, X², X⁴ and X⁶. The coefficients of odds² go round by one place, and the last comes first, times w.
 pub fn octic_norm<S: System>(a: &Octuple<S>, w: &S) -> Quadruple<S>
-    ensures { quadruple mean result ≡ octic_norm_of sys.ops (mean w.now) (octuple mean a.now) }
+    ensures { quadruple S.mean result ≡ octic_norm_of S.sys.ops (S.mean w.now) (octuple S.mean a.now) }
 {
     let evns = Quadruple {
         c0: a.c0,
@@ -178,7 +178,7 @@ pub fn octic_norm<S: System>(a: &Octuple<S>, w: &S) -> Quadruple<S>
 
 // The inverse of a0 + a1 X + .. + a7 X⁷: the conjugate evens − odds X over the norm; none exactly where no element is one.
 pub fn octic_inv<S: System>(a: &Octuple<S>, w: &S) -> Option<Octuple<S>>
-    ensures { elim result [ Some b ↦ Inverts (binomial_extension 7 sys (mean w.now)).ops (octuple mean a.now) (octuple mean b) | None ↦ NoInverse (binomial_extension 7 sys (mean w.now)).ops (octuple mean a.now) ] }
+    ensures { elim result [ Some b ↦ Inverts (binomial_extension 7 S.sys (S.mean w.now)).ops (octuple S.mean a.now) (octuple S.mean b) | None ↦ NoInverse (binomial_extension 7 S.sys (S.mean w.now)).ops (octuple S.mean a.now) ] }
 {
     let Some(norm_inv) = quartic_inv(&octic_norm(a, w), w) else {
         return None;

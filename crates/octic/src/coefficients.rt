@@ -18,9 +18,9 @@ impl<S: System, C: OcticConstants<S>> Extension<S> for Octic<S, C> {
 
     ghost coefficients = { λ a. octuple (λ x. x) a.value };
 
-    ghost product = { λ A o m. binomial 8 o (m C.OcticConstants.w) };
+    ghost product = { λ A o m. binomial 8 o (m C.w) };
 
-    ghost extends = { (lit≤ tt, binomial_extends 7 octic_passes S.System.sys S.System.lawful (S.System.mean C.OcticConstants.w), λ a. refl) };
+    ghost extends = { (lit≤ tt, binomial_extends 7 octic_passes S.sys S.lawful (S.mean C.w), λ a. refl) };
 
     fn degree() -> usize {
         8

@@ -13,7 +13,7 @@ pub trait OcticConjugates<S: System>: OcticConstants<S> {
     // The root keeps its law: z^8 is one, and z^i − 1 has an inverse for each i from 1 to 7.
     fn z() -> S
         ensures value { result ≡ z }
-        ensures root { RootLaw S.System.sys.ops 8 (S.System.mean result) };
+        ensures root { RootLaw S.sys.ops 8 (S.mean result) };
 }
 
 impl<S: System, C: OcticConjugates<S>> Conjugates<S> for Octic<S, C> {

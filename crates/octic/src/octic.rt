@@ -27,11 +27,11 @@ pub struct Octic<S, C> {
 
 // The number system of these elements: sums and negatives go coefficient by coefficient, products modulo X⁸ − w.
 impl<S: System, C: OcticConstants<S>> System for Octic<S, C> {
-    ghost sys = { binomial_extension 7 S.System.sys (S.System.mean C.OcticConstants.w) };
+    ghost sys = { binomial_extension 7 S.sys (S.mean C.w) };
 
-    ghost mean = { λ a. octuple S.System.mean a.value };
+    ghost mean = { λ a. octuple S.mean a.value };
 
-    ghost lawful = { binomial_lawful 7 octic_passes S.System.sys S.System.lawful (S.System.mean C.OcticConstants.w) };
+    ghost lawful = { binomial_lawful 7 octic_passes S.sys S.lawful (S.mean C.w) };
 
     fn zero() -> Octic<S, C> {
         Octic {

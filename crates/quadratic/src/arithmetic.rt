@@ -11,7 +11,7 @@ use numbers::system::System;
 
 // The product of a0 + a1 X and b0 + b1 X.
 pub fn quadratic_mul<S: System>(a: &Pair<S>, b: &Pair<S>, w: &S) -> Pair<S>
-    ensures { pair mean result ≡ binomial 2 sys.ops (mean w.now) (pair mean a.now) (pair mean b.now) }
+    ensures { pair S.mean result ≡ binomial 2 S.sys.ops (S.mean w.now) (pair S.mean a.now) (pair S.mean b.now) }
 {
     let b1_w = b.c1.mul(w);
     Pair {
@@ -22,7 +22,7 @@ pub fn quadratic_mul<S: System>(a: &Pair<S>, b: &Pair<S>, w: &S) -> Pair<S>
 
 // The square of a0 + a1 X.
 pub fn quadratic_extension_square<S: System>(a: &Pair<S>, w: &S) -> Pair<S>
-    ensures { pair mean result ≡ binomial 2 sys.ops (mean w.now) (pair mean a.now) (pair mean a.now) }
+    ensures { pair S.mean result ≡ binomial 2 S.sys.ops (S.mean w.now) (pair S.mean a.now) (pair S.mean a.now) }
 {
     let a1_w = a.c1.mul(w);
     let two_a1 = a.c1.add(&a.c1);
@@ -34,14 +34,14 @@ pub fn quadratic_extension_square<S: System>(a: &Pair<S>, w: &S) -> Pair<S>
 
 // The norm of a0 + a1 X, a0² − w a1².
 pub fn quadratic_norm<S: System>(a: &Pair<S>, w: &S) -> S
-    ensures { mean result ≡ norm sys.ops (mean w.now) (pair mean a.now) }
+    ensures { S.mean result ≡ norm S.sys.ops (S.mean w.now) (pair S.mean a.now) }
 {
     dot_product_2(&a.c0, &a.c0, &a.c1.neg(), &w.mul(&a.c1))
 }
 
 // The inverse of a0 + a1 X: the conjugate a0 − a1 X over the norm; none exactly where no element is one.
 pub fn quadratic_inv<S: System>(a: &Pair<S>, w: &S) -> Option<Pair<S>>
-    ensures { elim result [ Some b ↦ Inverts (binomial_extension 1 sys (mean w.now)).ops (pair mean a.now) (pair mean b) | None ↦ NoInverse (binomial_extension 1 sys (mean w.now)).ops (pair mean a.now) ] }
+    ensures { elim result [ Some b ↦ Inverts (binomial_extension 1 S.sys (S.mean w.now)).ops (pair S.mean a.now) (pair S.mean b) | None ↦ NoInverse (binomial_extension 1 S.sys (S.mean w.now)).ops (pair S.mean a.now) ] }
 {
     let Some(scalar) = quadratic_norm(a, w).inverse() else {
         return None;

@@ -18,9 +18,9 @@ impl<S: System, C: QuadraticConstants<S>> Extension<S> for Quadratic<S, C> {
 
     ghost coefficients = { λ a. pair (λ x. x) a.value };
 
-    ghost product = { λ A o m. binomial 2 o (m C.QuadraticConstants.w) };
+    ghost product = { λ A o m. binomial 2 o (m C.w) };
 
-    ghost extends = { (lit≤ tt, binomial_extends 1 quadratic_passes S.System.sys S.System.lawful (S.System.mean C.QuadraticConstants.w), λ a. refl) };
+    ghost extends = { (lit≤ tt, binomial_extends 1 quadratic_passes S.sys S.lawful (S.mean C.w), λ a. refl) };
 
     fn degree() -> usize {
         2

@@ -10,7 +10,7 @@ use numbers::system::System;
 
 // Constants of degree 2 with w = −1.
 pub trait ComplexConstants<S: System>: QuadraticConstants<S> {
-    ghost negative: { S.System.mean Self.QuadraticConstants.w ≡ S.System.sys.ops.neg S.System.sys.ops.one };
+    ghost negative: { S.mean Self.QuadraticConstants.w ≡ S.sys.ops.neg S.sys.ops.one };
 }
 
 impl<S: System, C: ComplexConstants<S>> Quadratic<S, C> {
@@ -26,14 +26,14 @@ impl<S: System, C: ComplexConstants<S>> Quadratic<S, C> {
 
     // The real number: its imaginary part is zero.
     pub fn new_real(real: S) -> Quadratic<S, C>
-        ensures { pair mean result.value ≡ embed 1 sys.ops (mean real) }
+        ensures { pair S.mean result.value ≡ embed 1 S.sys.ops (S.mean real) }
     {
         Self::new_complex(real, S::zero())
     }
 
     // The imaginary number: its real part is zero.
     pub fn new_imag(imag: S) -> Quadratic<S, C>
-        ensures { pair mean result.value ≡ (sys.ops.zero, (mean imag, tt)) }
+        ensures { pair S.mean result.value ≡ (S.sys.ops.zero, (S.mean imag, tt)) }
     {
         Self::new_complex(S::zero(), imag)
     }
@@ -54,15 +54,15 @@ impl<S: System, C: ComplexConstants<S>> Quadratic<S, C> {
 
     // The complex conjugate: the imaginary part negated.
     pub fn conjugate(&self) -> Quadratic<S, C>
-        ensures { pair mean result.value ≡ (mean self.now.value.c0, (sys.ops.neg (mean self.now.value.c1), tt)) }
+        ensures { pair S.mean result.value ≡ (S.mean self.now.value.c0, (S.sys.ops.neg (S.mean self.now.value.c1), tt)) }
     {
         Self::new_complex(self.real(), self.imag().neg())
     }
 
     // The sum of the squares of both parts, which is the product with the conjugate.
     pub fn norm(&self) -> S
-        ensures squares { mean result ≡ sys.ops.add (sys.ops.mul (mean self.now.value.c0) (mean self.now.value.c0)) (sys.ops.mul (mean self.now.value.c1) (mean self.now.value.c1)) }
-        ensures product { binomial 2 sys.ops (mean C.QuadraticConstants.w) (pair mean self.now.value) (mean self.now.value.c0, (sys.ops.neg (mean self.now.value.c1), tt)) ≡ embed 1 sys.ops (mean result) }
+        ensures squares { S.mean result ≡ S.sys.ops.add (S.sys.ops.mul (S.mean self.now.value.c0) (S.mean self.now.value.c0)) (S.sys.ops.mul (S.mean self.now.value.c1) (S.mean self.now.value.c1)) }
+        ensures product { binomial 2 S.sys.ops (S.mean C.w) (pair S.mean self.now.value) (S.mean self.now.value.c0, (S.sys.ops.neg (S.mean self.now.value.c1), tt)) ≡ embed 1 S.sys.ops (S.mean result) }
     {
         self.real().square().add(&self.imag().square())
     }

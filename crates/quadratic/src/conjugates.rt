@@ -13,7 +13,7 @@ pub trait QuadraticConjugates<S: System>: QuadraticConstants<S> {
     // The root keeps its law: z^2 is one, and z^i − 1 has an inverse for each i from 1 to 1.
     fn z() -> S
         ensures value { result ≡ z }
-        ensures root { RootLaw S.System.sys.ops 2 (S.System.mean result) };
+        ensures root { RootLaw S.sys.ops 2 (S.mean result) };
 }
 
 impl<S: System, C: QuadraticConjugates<S>> Conjugates<S> for Quadratic<S, C> {

@@ -26,11 +26,11 @@ pub struct Quadratic<S, C> {
 }
 
 impl<S: System, C: QuadraticConstants<S>> System for Quadratic<S, C> {
-    ghost sys = { binomial_extension 1 S.System.sys (S.System.mean C.QuadraticConstants.w) };
+    ghost sys = { binomial_extension 1 S.sys (S.mean C.w) };
 
-    ghost mean = { λ a. pair S.System.mean a.value };
+    ghost mean = { λ a. pair S.mean a.value };
 
-    ghost lawful = { binomial_lawful 1 quadratic_passes S.System.sys S.System.lawful (S.System.mean C.QuadraticConstants.w) };
+    ghost lawful = { binomial_lawful 1 quadratic_passes S.sys S.lawful (S.mean C.w) };
 
     fn zero() -> Quadratic<S, C> {
         Quadratic {

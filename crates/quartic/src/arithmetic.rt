@@ -14,7 +14,7 @@ use quadratic::pair::Pair;
 
 // The product of a0 + a1 X + a2 X² + a3 X³ and b0 + b1 X + b2 X² + b3 X³.
 pub fn quartic_mul<S: System>(a: &Quadruple<S>, b: &Quadruple<S>, w: &S) -> Quadruple<S>
-    ensures { quadruple mean result ≡ binomial 4 sys.ops (mean w.now) (quadruple mean a.now) (quadruple mean b.now) }
+    ensures { quadruple S.mean result ≡ binomial 4 S.sys.ops (S.mean w.now) (quadruple S.mean a.now) (quadruple S.mean b.now) }
 {
     let w_coeff_0 = dot_product_3(&a.c1, &b.c3, &a.c2, &b.c2, &a.c3, &b.c1);
     let w_coeff_1 = dot_product_2(&a.c2, &b.c3, &a.c3, &b.c2);
@@ -29,7 +29,7 @@ pub fn quartic_mul<S: System>(a: &Quadruple<S>, b: &Quadruple<S>, w: &S) -> Quad
 
 // The square of a0 + a1 X + a2 X² + a3 X³.
 pub fn quartic_square<S: System>(a: &Quadruple<S>, w: &S) -> Quadruple<S>
-    ensures { quadruple mean result ≡ binomial 4 sys.ops (mean w.now) (quadruple mean a.now) (quadruple mean a.now) }
+    ensures { quadruple S.mean result ≡ binomial 4 S.sys.ops (S.mean w.now) (quadruple S.mean a.now) (quadruple S.mean a.now) }
 {
     let two_a0 = a.c0.add(&a.c0);
     let two_a1 = a.c1.add(&a.c1);
@@ -46,7 +46,7 @@ pub fn quartic_square<S: System>(a: &Quadruple<S>, w: &S) -> Quadruple<S>
 
 // The norm of a0 + a1 X + a2 X² + a3 X³, that is norm_0 + norm_1 X² with norm_0 = a0² + w a2² − 2 w a1 a3 and norm_1 = 2 a0 a2 − a1² − w a3².
 pub fn quartic_norm<S: System>(a: &Quadruple<S>, w: &S) -> Pair<S>
-    ensures { pair mean result ≡ quartic_norm_of sys.ops (mean w.now) (quadruple mean a.now) }
+    ensures { pair S.mean result ≡ quartic_norm_of S.sys.ops (S.mean w.now) (quadruple S.mean a.now) }
 {
     let neg_a1 = a.c1.neg();
     let two_neg_a1 = neg_a1.add(&neg_a1);
@@ -64,7 +64,7 @@ pub fn quartic_norm<S: System>(a: &Quadruple<S>, w: &S) -> Pair<S>
 
 // The inverse of a0 + a1 X + a2 X² + a3 X³: the conjugate (a0 + a2 X²) − (a1 + a3 X²) X over the norm; none exactly where no element is one.
 pub fn quartic_inv<S: System>(a: &Quadruple<S>, w: &S) -> Option<Quadruple<S>>
-    ensures { elim result [ Some b ↦ Inverts (binomial_extension 3 sys (mean w.now)).ops (quadruple mean a.now) (quadruple mean b) | None ↦ NoInverse (binomial_extension 3 sys (mean w.now)).ops (quadruple mean a.now) ] }
+    ensures { elim result [ Some b ↦ Inverts (binomial_extension 3 S.sys (S.mean w.now)).ops (quadruple S.mean a.now) (quadruple S.mean b) | None ↦ NoInverse (binomial_extension 3 S.sys (S.mean w.now)).ops (quadruple S.mean a.now) ] }
 {
     let Some(inv) = quadratic_inv(&quartic_norm(a, w), w) else {
         return None;

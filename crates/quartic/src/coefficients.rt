@@ -18,9 +18,9 @@ impl<S: System, C: QuarticConstants<S>> Extension<S> for Quartic<S, C> {
 
     ghost coefficients = { λ a. quadruple (λ x. x) a.value };
 
-    ghost product = { λ A o m. binomial 4 o (m C.QuarticConstants.w) };
+    ghost product = { λ A o m. binomial 4 o (m C.w) };
 
-    ghost extends = { (lit≤ tt, binomial_extends 3 quartic_passes S.System.sys S.System.lawful (S.System.mean C.QuarticConstants.w), λ a. refl) };
+    ghost extends = { (lit≤ tt, binomial_extends 3 quartic_passes S.sys S.lawful (S.mean C.w), λ a. refl) };
 
     fn degree() -> usize {
         4

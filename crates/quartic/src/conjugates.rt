@@ -13,7 +13,7 @@ pub trait QuarticConjugates<S: System>: QuarticConstants<S> {
     // The root keeps its law: z^4 is one, and z^i − 1 has an inverse for each i from 1 to 3.
     fn z() -> S
         ensures value { result ≡ z }
-        ensures root { RootLaw S.System.sys.ops 4 (S.System.mean result) };
+        ensures root { RootLaw S.sys.ops 4 (S.mean result) };
 }
 
 impl<S: System, C: QuarticConjugates<S>> Conjugates<S> for Quartic<S, C> {

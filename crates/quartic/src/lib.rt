@@ -1,4 +1,6 @@
 // The extension of degree 4.
+#![tactic(auto)]
+
 pub mod arithmetic;
 pub mod coefficients;
 pub mod conjugates;

@@ -27,11 +27,11 @@ pub struct Quartic<S, C> {
 
 // The number system of these elements: sums and negatives go coefficient by coefficient, products modulo X⁴ − w.
 impl<S: System, C: QuarticConstants<S>> System for Quartic<S, C> {
-    ghost sys = { binomial_extension 3 S.System.sys (S.System.mean C.QuarticConstants.w) };
+    ghost sys = { binomial_extension 3 S.sys (S.mean C.w) };
 
-    ghost mean = { λ a. quadruple S.System.mean a.value };
+    ghost mean = { λ a. quadruple S.mean a.value };
 
-    ghost lawful = { binomial_lawful 3 quartic_passes S.System.sys S.System.lawful (S.System.mean C.QuarticConstants.w) };
+    ghost lawful = { binomial_lawful 3 quartic_passes S.sys S.lawful (S.mean C.w) };
 
     fn zero() -> Quartic<S, C> {
         Quartic {

@@ -10,7 +10,7 @@ use numbers::system::System;
 
 // The product.
 pub fn quintic_mul<S: System>(a: &Quintuple<S>, b: &Quintuple<S>, w: &S) -> Quintuple<S>
-    ensures { quintuple mean result ≡ binomial 5 sys.ops (mean w.now) (quintuple mean a.now) (quintuple mean b.now) }
+    ensures { quintuple S.mean result ≡ binomial 5 S.sys.ops (S.mean w.now) (quintuple S.mean a.now) (quintuple S.mean b.now) }
 {
     let w_coeff_0 = S::dot_product_4(&a.c1, &b.c4, &a.c2, &b.c3, &a.c3, &b.c2, &a.c4, &b.c1);
     let w_coeff_1 = dot_product_3(&a.c2, &b.c4, &a.c3, &b.c3, &a.c4, &b.c2);
@@ -31,7 +31,7 @@ pub fn quintic_mul<S: System>(a: &Quintuple<S>, b: &Quintuple<S>, w: &S) -> Quin
 
 // The square.
 pub fn quintic_square<S: System>(a: &Quintuple<S>, w: &S) -> Quintuple<S>
-    ensures { quintuple mean result ≡ binomial 5 sys.ops (mean w.now) (quintuple mean a.now) (quintuple mean a.now) }
+    ensures { quintuple S.mean result ≡ binomial 5 S.sys.ops (S.mean w.now) (quintuple S.mean a.now) (quintuple S.mean a.now) }
 {
     let two_a0 = a.c0.add(&a.c0);
     let two_a1 = a.c1.add(&a.c1);
@@ -50,7 +50,7 @@ pub fn quintic_square<S: System>(a: &Quintuple<S>, w: &S) -> Quintuple<S>
 
 // Each coefficient times one element of the layer below.
 pub fn quintic_scale<S: System>(a: &Quintuple<S>, x: &S) -> Quintuple<S>
-    ensures { quintuple mean result ≡ scaled 5 sys.ops (mean x.now) (quintuple mean a.now) }
+    ensures { quintuple S.mean result ≡ scaled 5 S.sys.ops (S.mean x.now) (quintuple S.mean a.now) }
 {
     Quintuple {
         c0: a.c0.mul(x),
@@ -63,7 +63,7 @@ pub fn quintic_scale<S: System>(a: &Quintuple<S>, x: &S) -> Quintuple<S>
 
 // The coefficient at power 0 of the product, where no other is wanted.
 pub(crate) fn quintic_mul_low<S: System>(a: &Quintuple<S>, b: &Quintuple<S>, w: &S) -> S
-    ensures { mean result ≡ (binomial 5 sys.ops (mean w.now) (quintuple mean a.now) (quintuple mean b.now)).0 }
+    ensures { S.mean result ≡ (binomial 5 S.sys.ops (S.mean w.now) (quintuple S.mean a.now) (quintuple S.mean b.now)).0 }
 {
     let w_coeff = S::dot_product_4(&a.c1, &b.c4, &a.c2, &b.c3, &a.c3, &b.c2, &a.c4, &b.c1);
     dot_product_2(&a.c0, &b.c0, w, &w_coeff)

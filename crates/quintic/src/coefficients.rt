@@ -18,9 +18,9 @@ impl<S: System, C: QuinticConstants<S>> Extension<S> for Quintic<S, C> {
 
     ghost coefficients = { λ a. quintuple (λ x. x) a.value };
 
-    ghost product = { λ A o m. binomial 5 o (m C.QuinticConstants.w) };
+    ghost product = { λ A o m. binomial 5 o (m C.w) };
 
-    ghost extends = { (lit≤ tt, binomial_extends 4 quintic_passes S.System.sys S.System.lawful (S.System.mean C.QuinticConstants.w), λ a. refl) };
+    ghost extends = { (lit≤ tt, binomial_extends 4 quintic_passes S.sys S.lawful (S.mean C.w), λ a. refl) };
 
     fn degree() -> usize {
         5

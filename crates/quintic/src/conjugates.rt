@@ -13,8 +13,8 @@ use numbers::system::System;
 
 // The Frobenius image: coefficient i times z^i.
 pub fn quintic_frobenius<S: System>(a: &Quintuple<S>, z: &S) -> Quintuple<S>
-    ensures image { quintuple mean result ≡ root_frobenius_map 5 sys.ops (mean z.now) (quintuple mean a.now) }
-    ensures conjugation { RootLaw sys.ops 5 (mean z.now) → (w : sys.Elem) → Conjugation 4 sys.ops (binomial 5 sys.ops w) (root_frobenius_map 5 sys.ops (mean z.now)) }
+    ensures image { quintuple S.mean result ≡ root_frobenius_map 5 S.sys.ops (S.mean z.now) (quintuple S.mean a.now) }
+    ensures conjugation { RootLaw S.sys.ops 5 (S.mean z.now) → (w : S.sys.Elem) → Conjugation 4 S.sys.ops (binomial 5 S.sys.ops w) (root_frobenius_map 5 S.sys.ops (S.mean z.now)) }
 {
     let z2 = z.square();
     let z3 = z2.mul(z);
@@ -30,7 +30,7 @@ pub fn quintic_frobenius<S: System>(a: &Quintuple<S>, z: &S) -> Quintuple<S>
 
 // The Frobenius image taken `count` times; five times give every element back.
 pub fn quintic_repeated_frobenius<S: System>(a: &Quintuple<S>, z: &S, count: u64) -> Quintuple<S>
-    ensures { RootLaw sys.ops 5 (mean z.now) → quintuple mean result ≡ repeated (root_frobenius_map 5 sys.ops (mean z.now)) count (quintuple mean a.now) }
+    ensures { RootLaw S.sys.ops 5 (S.mean z.now) → quintuple S.mean result ≡ repeated (root_frobenius_map 5 S.sys.ops (S.mean z.now)) count (quintuple S.mean a.now) }
 {
     let z0 = exp_u64(z, count % 5);
     quintic_frobenius(a, &z0)
@@ -38,7 +38,7 @@ pub fn quintic_repeated_frobenius<S: System>(a: &Quintuple<S>, z: &S, count: u64
 
 // The product of the four conjugates of a but itself.
 fn other_conjugates<S: System>(a: &Quintuple<S>, w: &S, z: &S) -> Quintuple<S>
-    ensures { RootLaw sys.ops 5 (mean z.now) → quintuple mean result ≡ other_conjugates_of sys.ops (mean w.now) (mean z.now) (quintuple mean a.now) }
+    ensures { RootLaw S.sys.ops 5 (S.mean z.now) → quintuple S.mean result ≡ other_conjugates_of S.sys.ops (S.mean w.now) (S.mean z.now) (quintuple S.mean a.now) }
 {
     let a_exp_q = quintic_frobenius(a, z);
     let a_exp_q_plus_q_sq = quintic_frobenius(&quintic_mul(a, &a_exp_q, w), z);
@@ -51,7 +51,7 @@ fn other_conjugates<S: System>(a: &Quintuple<S>, w: &S, z: &S) -> Quintuple<S>
 
 // The inverse: the product of the other conjugates over the norm, which lies in the layer below; none exactly where no element is one.
 pub fn quintic_inv<S: System>(a: &Quintuple<S>, w: &S, z: &S) -> Option<Quintuple<S>>
-    ensures { RootLaw sys.ops 5 (mean z.now) → elim result [ Some b ↦ Inverts (binomial_extension 4 sys (mean w.now)).ops (quintuple mean a.now) (quintuple mean b) | None ↦ NoInverse (binomial_extension 4 sys (mean w.now)).ops (quintuple mean a.now) ] }
+    ensures { RootLaw S.sys.ops 5 (S.mean z.now) → elim result [ Some b ↦ Inverts (binomial_extension 4 S.sys (S.mean w.now)).ops (quintuple S.mean a.now) (quintuple S.mean b) | None ↦ NoInverse (binomial_extension 4 S.sys (S.mean w.now)).ops (quintuple S.mean a.now) ] }
 {
     let prod_conj = other_conjugates(a, w, z);
     let norm = quintic_mul_low(a, &prod_conj, w);

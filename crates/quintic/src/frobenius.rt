@@ -8,7 +8,7 @@ use extensions::conjugates::Conjugates;
 use numbers::system::System;
 
 impl<S: System, C: QuinticConstants<S>> Conjugates<S> for Quintic<S, C> {
-    ghost conjugate = { λ n A o m. root_frobenius_map n o (m C.QuinticConstants.z) };
+    ghost conjugate = { λ n A o m. root_frobenius_map n o (m C.z) };
 
     fn frobenius(&self) -> Quintic<S, C> {
         Quintic {

@@ -27,7 +27,7 @@ pub trait QuinticConstants<S: System>: Copy + Default {
     // The root keeps its law: z^5 is one, and z − 1 to z⁴ − 1 have inverses.
     fn z() -> S
         ensures value { result ≡ z }
-        ensures root { RootLaw S.System.sys.ops 5 (S.System.mean result) };
+        ensures root { RootLaw S.sys.ops 5 (S.mean result) };
 }
 
 // An element c0 + c1 X + .. + c4 X⁴. The mark names the constants and takes no room.
@@ -38,11 +38,11 @@ pub struct Quintic<S, C> {
 }
 
 impl<S: System, C: QuinticConstants<S>> System for Quintic<S, C> {
-    ghost sys = { binomial_extension 4 S.System.sys (S.System.mean C.QuinticConstants.w) };
+    ghost sys = { binomial_extension 4 S.sys (S.mean C.w) };
 
-    ghost mean = { λ a. quintuple S.System.mean a.value };
+    ghost mean = { λ a. quintuple S.mean a.value };
 
-    ghost lawful = { binomial_lawful 4 quintic_passes S.System.sys S.System.lawful (S.System.mean C.QuinticConstants.w) };
+    ghost lawful = { binomial_lawful 4 quintic_passes S.sys S.lawful (S.mean C.w) };
 
     fn zero() -> Quintic<S, C> {
         Quintic {

@@ -11,7 +11,7 @@ use numbers::system::System;
 
 // The coefficients of zero.
 pub fn vector_zero<S: System>() -> Quintuple<S>
-    ensures { quintuple mean result ≡ fill 5 sys.ops.zero }
+    ensures { quintuple S.mean result ≡ fill 5 S.sys.ops.zero }
 {
     let zero = S::zero();
     Quintuple {
@@ -25,7 +25,7 @@ pub fn vector_zero<S: System>() -> Quintuple<S>
 
 // The coefficients of an element of the layer below: zeros above power 0.
 pub fn vector_from_base<S: System>(x: S) -> Quintuple<S>
-    ensures { quintuple mean result ≡ embed 4 sys.ops (mean x) }
+    ensures { quintuple S.mean result ≡ embed 4 S.sys.ops (S.mean x) }
 {
     let zero = S::zero();
     Quintuple {
@@ -38,7 +38,7 @@ pub fn vector_from_base<S: System>(x: S) -> Quintuple<S>
 }
 
 pub fn vector_add<S: System>(a: &Quintuple<S>, b: &Quintuple<S>) -> Quintuple<S>
-    ensures { quintuple mean result ≡ both 5 sys.ops.add (quintuple mean a.now) (quintuple mean b.now) }
+    ensures { quintuple S.mean result ≡ both 5 S.sys.ops.add (quintuple S.mean a.now) (quintuple S.mean b.now) }
 {
     Quintuple {
         c0: a.c0.add(&b.c0),
@@ -50,7 +50,7 @@ pub fn vector_add<S: System>(a: &Quintuple<S>, b: &Quintuple<S>) -> Quintuple<S>
 }
 
 pub fn vector_sub<S: System>(a: &Quintuple<S>, b: &Quintuple<S>) -> Quintuple<S>
-    ensures { quintuple mean result ≡ both 5 (sub sys.ops) (quintuple mean a.now) (quintuple mean b.now) }
+    ensures { quintuple S.mean result ≡ both 5 (sub S.sys.ops) (quintuple S.mean a.now) (quintuple S.mean b.now) }
 {
     Quintuple {
         c0: a.c0.sub(&b.c0),
@@ -62,7 +62,7 @@ pub fn vector_sub<S: System>(a: &Quintuple<S>, b: &Quintuple<S>) -> Quintuple<S>
 }
 
 pub fn vector_neg<S: System>(a: &Quintuple<S>) -> Quintuple<S>
-    ensures { quintuple mean result ≡ each 5 sys.ops.neg (quintuple mean a.now) }
+    ensures { quintuple S.mean result ≡ each 5 S.sys.ops.neg (quintuple S.mean a.now) }
 {
     Quintuple {
         c0: a.c0.neg(),
@@ -75,8 +75,8 @@ pub fn vector_neg<S: System>(a: &Quintuple<S>) -> Quintuple<S>
 
 // Whether both mean the same coefficients.
 pub fn vector_same<S: System>(a: &Quintuple<S>, b: &Quintuple<S>) -> bool
-    ensures equal { T result → quintuple mean a.now ≡ quintuple mean b.now }
-    ensures different { quintuple mean a.now ≡ quintuple mean b.now → T result }
+    ensures equal { T result → quintuple S.mean a.now ≡ quintuple S.mean b.now }
+    ensures different { quintuple S.mean a.now ≡ quintuple S.mean b.now → T result }
 {
     a.c0.same(&b.c0) && a.c1.same(&b.c1) && a.c2.same(&b.c2) && a.c3.same(&b.c3) && a.c4.same(&b.c4)
 }

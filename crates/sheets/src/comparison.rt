@@ -12,7 +12,7 @@ use reading::states::{Figure, MOST};
 
 // Refuses entries that are not all below the limit.
 fn check_limit<S: System>(entries: &[u64]) -> Result<(), Refusal>
-    ensures { elim result [ Ok _ ↦ Below sys.limit entries.now | Err q ↦ (q ≡ Refusal.OverLimit) × (Below sys.limit entries.now → ⊥) ] }
+    ensures { elim result [ Ok _ ↦ Below S.sys.limit entries.now | Err q ↦ (q ≡ Refusal.OverLimit) × (Below S.sys.limit entries.now → ⊥) ] }
 {
     for i in 0..entries.len() {
         let _ = S::entry(entries[i])?;
@@ -22,8 +22,8 @@ fn check_limit<S: System>(entries: &[u64]) -> Result<(), Refusal>
 
 // The figure at x of a sheet with these entries.
 fn figure_at<S: System>(x: S, entries: &[u64]) -> Result<Figure<S>, Refusal>
-    requires { (Below sys.limit entries.now) × (length entries.now ≤ most) }
-    ensures { elim result [ Ok f ↦ IsUnit sys.ops (mean x) × (f.element ≡ x) × (f.count ≡ length entries.now) × (mean f.sum ≡ sum_of sys (mean x) entries.now) | Err q ↦ (q ≡ Refusal.NoInverse) × NoInverse sys.ops (mean x) ] }
+    requires { (Below S.sys.limit entries.now) × (length entries.now ≤ most) }
+    ensures { elim result [ Ok f ↦ IsUnit S.sys.ops (S.mean x) × (f.element ≡ x) × (f.count ≡ length entries.now) × (S.mean f.sum ≡ sum_of S.sys (S.mean x) entries.now) | Err q ↦ (q ≡ Refusal.NoInverse) × NoInverse S.sys.ops (S.mean x) ] }
 {
     let point = draw(x)?;
     let mut reading = point.begin();
@@ -40,9 +40,9 @@ fn figure_at<S: System>(x: S, entries: &[u64]) -> Result<Figure<S>, Refusal>
 // equal: true means that the sheets are equal entry for entry, if the points are at least as many as the entries and any two of them differ by a unit.
 // different: equal sheets have true for an answer, so that false means that the sheets are different.
 pub fn compare<S: System>(points: &[S], left: &[u64], right: &[u64]) -> Result<bool, Refusal>
-    ensures refused { elim result [ Ok _ ↦ Readable sys (map mean points.now) left.now right.now | Err q ↦ Unreadable sys (map mean points.now) left.now right.now q ] }
-    ensures alike { elim result [ Ok b ↦ Tells b (SameFigures sys (map mean points.now) left.now right.now) | Err _ ↦ Unit {0} ] }
-    ensures equal { elim result [ Ok b ↦ (T b → length left.now ≤ length points.now → Apart sys.ops (map mean points.now) → left.now ≡ right.now) | Err _ ↦ Unit {0} ] }
+    ensures refused { elim result [ Ok _ ↦ Readable S.sys (map S.mean points.now) left.now right.now | Err q ↦ Unreadable S.sys (map S.mean points.now) left.now right.now q ] }
+    ensures alike { elim result [ Ok b ↦ Tells b (SameFigures S.sys (map S.mean points.now) left.now right.now) | Err _ ↦ Unit {0} ] }
+    ensures equal { elim result [ Ok b ↦ (T b → length left.now ≤ length points.now → Apart S.sys.ops (map S.mean points.now) → left.now ≡ right.now) | Err _ ↦ Unit {0} ] }
     ensures different { elim result [ Ok b ↦ (left.now ≡ right.now → T b) | Err _ ↦ Unit {0} ] }
 {
     check_limit::<S>(left)?;

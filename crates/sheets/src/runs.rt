@@ -20,11 +20,11 @@ pub struct Run<S: System> {
 
 // Makes the calls one after another, and puts down the answer to each.
 fn play<S: System>(reading: &mut Reading<S>, calls: &[Call], out: &mut [Answer<S>])
-    requires { (Sound sys mean reading.old) × (length out.old ≡ length calls.now) }
-    ensures sound { Sound sys mean reading.new }
+    requires { (Sound S.sys S.mean reading.old) × (length out.old ≡ length calls.now) }
+    ensures sound { Sound S.sys S.mean reading.new }
     ensures point { reading.new.element ≡ reading.old.element }
-    ensures list { sheet reading.new ≡ after sys (sheet reading.old) calls.now }
-    ensures answers { map (said mean) out.new ≡ answers sys (mean reading.old.element) (sheet reading.old) calls.now }
+    ensures list { sheet reading.new ≡ after S.sys (sheet reading.old) calls.now }
+    ensures answers { map (said S.mean) out.new ≡ answers S.sys (S.mean reading.old.element) (sheet reading.old) calls.now }
 {
     for i in 0..out.len() {
         out[i] = reading.call(calls[i]);
@@ -39,9 +39,9 @@ fn play<S: System>(reading: &mut Reading<S>, calls: &[Call], out: &mut [Answer<S
 // agreement: two sheets of equally many entries that any such calls have read at as many points or more, and that show equal sums at each of them, are
 // equal entry for entry, if any two of the points differ by a unit.
 pub fn read<S: System>(x: S, calls: &[Call], out: &mut [Answer<S>]) -> Result<Run<S>, Refusal>
-    ensures inverse { elim result [ Ok run ↦ OnlyInverse sys.ops (mean x) (mean run.inverse) | Err q ↦ Refused sys (mean x) (length calls.now) (length out.old) q ] }
-    ensures runs { elim result [ Ok run ↦ AsPlainSheet sys mean x calls.now out.new run.figure | Err q ↦ out.new ≡ out.old ] }
-    ensures agreement { Agreement sys }
+    ensures inverse { elim result [ Ok run ↦ OnlyInverse S.sys.ops (S.mean x) (S.mean run.inverse) | Err q ↦ Refused S.sys (S.mean x) (length calls.now) (length out.old) q ] }
+    ensures runs { elim result [ Ok run ↦ AsPlainSheet S.sys S.mean x calls.now out.new run.figure | Err q ↦ out.new ≡ out.old ] }
+    ensures agreement { Agreement S.sys }
 {
     let cut = out.len() != calls.len();
     if cut {

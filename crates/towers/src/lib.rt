@@ -1,5 +1,7 @@
 // A tower that no catalog lists: degree 8 over degree 3 over the residues modulo 12, which have zero divisors. Only its constants are written here; that it is a number
 // system, with products, lists and exact inverses, is proved of every tower.
+#![tactic(auto)]
+
 ghost use Rattle.std.proofs.Common.{lit≤, lit<};
 
 use bases::modulus::Modulus;

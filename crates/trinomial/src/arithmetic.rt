@@ -10,7 +10,7 @@ use quintic::quintuple::Quintuple;
 
 // Nine coefficients reduced by X^5 = 1 − X², X^6 = X − X³, X^7 = X² − X⁴ and X^8 = X³ + X² − 1.
 fn reduce<S: System>(c0: S, c1: S, c2: S, c3: S, c4: S, c5: S, c6: S, c7: S, c8: S) -> Quintuple<S>
-    ensures { quintuple mean result ≡ reduced sys.ops (mean c0) (mean c1) (mean c2) (mean c3) (mean c4) (mean c5) (mean c6) (mean c7) (mean c8) }
+    ensures { quintuple S.mean result ≡ reduced S.sys.ops (S.mean c0) (S.mean c1) (S.mean c2) (S.mean c3) (S.mean c4) (S.mean c5) (S.mean c6) (S.mean c7) (S.mean c8) }
 {
     let c5_minus_c8 = c5.sub(&c8);
     Quintuple {
@@ -24,7 +24,7 @@ fn reduce<S: System>(c0: S, c1: S, c2: S, c3: S, c4: S, c5: S, c6: S, c7: S, c8:
 
 // The product.
 pub fn trinomial_quintic_mul<S: System>(a: &Quintuple<S>, b: &Quintuple<S>) -> Quintuple<S>
-    ensures { quintuple mean result ≡ trinomial sys.ops (quintuple mean a.now) (quintuple mean b.now) }
+    ensures { quintuple S.mean result ≡ trinomial S.sys.ops (quintuple S.mean a.now) (quintuple S.mean b.now) }
 {
     let c0 = a.c0.mul(&b.c0);
     let c1 = dot_product_2(&a.c0, &b.c1, &a.c1, &b.c0);
@@ -42,7 +42,7 @@ pub fn trinomial_quintic_mul<S: System>(a: &Quintuple<S>, b: &Quintuple<S>) -> Q
 
 // The square.
 pub fn quintic_square<S: System>(a: &Quintuple<S>) -> Quintuple<S>
-    ensures { quintuple mean result ≡ trinomial sys.ops (quintuple mean a.now) (quintuple mean a.now) }
+    ensures { quintuple S.mean result ≡ trinomial S.sys.ops (quintuple S.mean a.now) (quintuple S.mean a.now) }
 {
     let a0_2 = a.c0.add(&a.c0);
     let a1_2 = a.c1.add(&a.c1);
@@ -62,7 +62,7 @@ pub fn quintic_square<S: System>(a: &Quintuple<S>) -> Quintuple<S>
 
 // The coefficient at power 0 of the product, where no other is wanted: c0 + c5 − c8.
 pub(crate) fn trinomial_mul_low<S: System>(a: &Quintuple<S>, b: &Quintuple<S>) -> S
-    ensures { mean result ≡ (trinomial sys.ops (quintuple mean a.now) (quintuple mean b.now)).0 }
+    ensures { S.mean result ≡ (trinomial S.sys.ops (quintuple S.mean a.now) (quintuple S.mean b.now)).0 }
 {
     let c5 = S::dot_product_4(&a.c1, &b.c4, &a.c2, &b.c3, &a.c3, &b.c2, &a.c4, &b.c1);
     a.c0.mul(&b.c0).add(&c5.sub(&a.c4.mul(&b.c4)))

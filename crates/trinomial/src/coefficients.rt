@@ -19,7 +19,7 @@ impl<S: System, C: TrinomialConstants<S>> Extension<S> for TrinomialQuintic<S, C
 
     ghost product = { λ A o m. trinomial o };
 
-    ghost extends = { (lit≤ tt, trinomial_extends S.System.sys S.System.lawful, λ a. refl) };
+    ghost extends = { (lit≤ tt, trinomial_extends S.sys S.lawful, λ a. refl) };
 
     fn degree() -> usize {
         5

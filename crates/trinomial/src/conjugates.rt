@@ -15,8 +15,8 @@ use quintic::quintuple::Quintuple;
 
 // The Frobenius image a0 + a1 T1 + a2 T2 + a3 T3 + a4 T4.
 pub fn trinomial_frobenius<S: System>(a: &Quintuple<S>, t: &Rows<S>) -> Quintuple<S>
-    ensures image { quintuple mean result ≡ table_frobenius sys.ops (rows mean t.now) (quintuple mean a.now) }
-    ensures conjugation { TableLaw sys.ops (rows mean t.now) → Conjugation 4 sys.ops (trinomial sys.ops) (table_frobenius sys.ops (rows mean t.now)) }
+    ensures image { quintuple S.mean result ≡ table_frobenius S.sys.ops (rows S.mean t.now) (quintuple S.mean a.now) }
+    ensures conjugation { TableLaw S.sys.ops (rows S.mean t.now) → Conjugation 4 S.sys.ops (trinomial S.sys.ops) (table_frobenius S.sys.ops (rows S.mean t.now)) }
 {
     let tail = S::dot_product_4(
         &a.c1, &t.t1.c0, &a.c2, &t.t2.c0, &a.c3, &t.t3.c0, &a.c4, &t.t4.c0,
@@ -44,7 +44,7 @@ pub fn trinomial_repeated_frobenius<S: System>(
     t: &Rows<S>,
     count: u64,
 ) -> Quintuple<S>
-    ensures { TableLaw sys.ops (rows mean t.now) → quintuple mean result ≡ repeated (table_frobenius sys.ops (rows mean t.now)) count (quintuple mean a.now) }
+    ensures { TableLaw S.sys.ops (rows S.mean t.now) → quintuple S.mean result ≡ repeated (table_frobenius S.sys.ops (rows S.mean t.now)) count (quintuple S.mean a.now) }
 {
     let mut image = *a;
     for _k in 0..count % 5 {
@@ -55,7 +55,7 @@ pub fn trinomial_repeated_frobenius<S: System>(
 
 // The product of the four conjugates of a but itself.
 fn other_conjugates<S: System>(a: &Quintuple<S>, t: &Rows<S>) -> Quintuple<S>
-    ensures { quintuple mean result ≡ other_conjugates_of sys.ops (rows mean t.now) (quintuple mean a.now) }
+    ensures { quintuple S.mean result ≡ other_conjugates_of S.sys.ops (rows S.mean t.now) (quintuple S.mean a.now) }
 {
     let a_exp_p = trinomial_frobenius(a, t);
     let a_exp_p_plus_p2 = trinomial_frobenius(&trinomial_quintic_mul(a, &a_exp_p), t);
@@ -65,7 +65,7 @@ fn other_conjugates<S: System>(a: &Quintuple<S>, t: &Rows<S>) -> Quintuple<S>
 
 // The inverse: the product of the other conjugates over the norm, which lies in the layer below; none exactly where no element is one.
 pub fn trinomial_inv<S: System>(a: &Quintuple<S>, t: &Rows<S>) -> Option<Quintuple<S>>
-    ensures { TableLaw sys.ops (rows mean t.now) → elim result [ Some b ↦ Inverts (trinomial_extension sys).ops (quintuple mean a.now) (quintuple mean b) | None ↦ NoInverse (trinomial_extension sys).ops (quintuple mean a.now) ] }
+    ensures { TableLaw S.sys.ops (rows S.mean t.now) → elim result [ Some b ↦ Inverts (trinomial_extension S.sys).ops (quintuple S.mean a.now) (quintuple S.mean b) | None ↦ NoInverse (trinomial_extension S.sys).ops (quintuple S.mean a.now) ] }
 {
     let prod_conj = other_conjugates(a, t);
     let norm = trinomial_mul_low(a, &prod_conj);

@@ -8,7 +8,7 @@ use extensions::conjugates::Conjugates;
 use numbers::system::System;
 
 impl<S: System, C: TrinomialConstants<S>> Conjugates<S> for TrinomialQuintic<S, C> {
-    ghost conjugate = { λ n A o m. table_map n o (rows m C.TrinomialConstants.table) };
+    ghost conjugate = { λ n A o m. table_map n o (rows m C.table) };
 
     fn frobenius(&self) -> TrinomialQuintic<S, C> {
         TrinomialQuintic {

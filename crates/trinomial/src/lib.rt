@@ -1,4 +1,6 @@
 // The extension of degree 5 by a root of X^5 + X² − 1.
+#![tactic(auto)]
+
 pub mod arithmetic;
 pub mod coefficients;
 pub mod conjugates;

@@ -24,7 +24,7 @@ pub trait TrinomialConstants<S: System>: Copy + Default {
     // The rows keep the table law.
     fn table() -> Rows<S>
         ensures value { result ≡ table }
-        ensures table { TableLaw S.System.sys.ops (rows S.System.mean result) };
+        ensures table { TableLaw S.sys.ops (rows S.mean result) };
 }
 
 // An element c0 + c1 X + .. + c4 X⁴. The mark names the constants and takes no room.
@@ -35,11 +35,11 @@ pub struct TrinomialQuintic<S, C> {
 }
 
 impl<S: System, C: TrinomialConstants<S>> System for TrinomialQuintic<S, C> {
-    ghost sys = { trinomial_extension S.System.sys };
+    ghost sys = { trinomial_extension S.sys };
 
-    ghost mean = { λ a. quintuple S.System.mean a.value };
+    ghost mean = { λ a. quintuple S.mean a.value };
 
-    ghost lawful = { trinomial_lawful S.System.sys S.System.lawful };
+    ghost lawful = { trinomial_lawful S.sys S.lawful };
 
     fn zero() -> TrinomialQuintic<S, C> {
         TrinomialQuintic {

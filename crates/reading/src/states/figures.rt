@@ -26,8 +26,8 @@ impl<S: System> Figure<S> {
 
     // Whether the elements, the counts and the sums are the same.
     pub fn alike(&self, other: &Figure<S>) -> bool
-        ensures equal { T result → Alike sys mean self.now other.now }
-        ensures different { Alike sys mean self.now other.now → T result }
+        ensures equal { T result → Alike S.sys S.mean self.now other.now }
+        ensures different { Alike S.sys S.mean self.now other.now → T result }
     {
         let same_element = self.element.same(&other.element);
         same_element && self.count == other.count && self.sum.same(&other.sum)

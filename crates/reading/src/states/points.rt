@@ -9,7 +9,7 @@ use numbers::system::System;
 
 // The point at an element, which is refused exactly where no element is its inverse. Nothing else makes a point.
 pub fn draw<S: System>(x: S) -> Result<Point<S>, Refusal>
-    ensures { elim result [ Ok p ↦ (p.element ≡ x) × Inverts sys.ops (mean x) (mean p.inverse) | Err q ↦ (q ≡ Refusal.NoInverse) × NoInverse sys.ops (mean x) ] }
+    ensures { elim result [ Ok p ↦ (p.element ≡ x) × Inverts S.sys.ops (S.mean x) (S.mean p.inverse) | Err q ↦ (q ≡ Refusal.NoInverse) × NoInverse S.sys.ops (S.mean x) ] }
 {
     let Some(inverse) = x.inverse() else {
         return Err(Refusal::NoInverse);
@@ -35,7 +35,7 @@ impl<S: System> Point<S> {
 
     // An open reading without entries, which uses the point up.
     pub fn begin(self) -> Reading<S>
-        ensures sound { Inverts sys.ops (mean self.element) (mean self.inverse) → Sound sys mean result }
+        ensures sound { Inverts S.sys.ops (S.mean self.element) (S.mean self.inverse) → Sound S.sys S.mean result }
         ensures empty { sheet result ≡ [] }
         ensures point { (result.element ≡ self.element) × (result.inverse ≡ self.inverse) }
     {
