@@ -7,7 +7,7 @@ loop-i-preserved g c =
     let list = g.S.System.sys.list (g.S.System.mean c.args.x.now) in
     let here : c.loop-i.i < length list = omega (arith, c.size-i-end.ensures, g.met.S.System.lawful.list_size (g.S.System.mean c.args.x.now)) in
     c.in-ok-push.ensures.items
-    ∙ ap₂ (λ (xs : List ℕ) (n : ℕ). xs ++ (n ∷ [])) c.loop-i.invariant c.number-at.ensures ∙ sym (take_more list c.loop-i.i 0 here)
+    ∙ ap₂ (λ (xs : List ℕ) (n : ℕ). xs ++ (n ∷ [])) c.loop-i.invariant c.number_at.ensures ∙ sym (take_more list c.loop-i.i 0 here)
 
 pub returns : goal.returns
 returns g c =

@@ -6,5 +6,5 @@ use Rattle.calculator.proofs.parse.parse.Goals as goal
 
 pub returns : goal.returns
 returns c =
-    let e : map (λ x. x.now) c.as-slice.result.now ≡ words c.args.line.now = ap (map (λ x. x.now)) c.as-slice.ensures.value ∙ c.in-Ok.ensures in
+    let e : map (λ x. x.now) c.as_slice.result.now ≡ words c.args.line.now = ap (map (λ x. x.now)) c.as_slice.ensures.value ∙ c.in-Ok.ensures in
     hindered_nothing (words c.args.line.now) c.in-Err.fault (subst (λ ws. Hindered (Because ws) c.in-Err.fault) e c.in-Err.ensures)

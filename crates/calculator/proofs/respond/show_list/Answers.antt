@@ -12,8 +12,8 @@ loop-i-preserved c =
     let ns = c.args.numbers.now in
     let i = c.loop-i.i in
     let u = string_bytes c.if-i-gt0.text in
-    let pushed : string_bytes c.push-str.new.self ≡ u ++ decimal (get_or ns i 0) =
-    c.in-ok-push-str.ensures.bytes ∙ ap (λ t. u ++ t) (c.as-str.ensures.value ∙ c.in-ok-digits.ensures.ok) in
+    let pushed : string_bytes c.push_str.new.self ≡ u ++ decimal (get_or ns i 0) =
+    c.in-ok-push_str.ensures.bytes ∙ ap (λ t. u ++ t) (c.as_str.ensures.value ∙ c.in-ok-digits.ensures.ok) in
     pushed
     ∙ elim c.if-i-gt0.branch [
       | then-i-gt0+in-ok-push w ↦

@@ -5,10 +5,10 @@ use Rattle.calculator.proofs.text.inside.Goals as goal
 pub returns-in-default : goal.returns-in-default
 returns-in-default c inner e = strip_prefix_char 91 c.args.text.now None c.in-default.ensures.cases (lit< tt) (inner ++ (93 ∷ [])) e
 
-pub returns-in-Some-strip-suffix : goal.returns-in-Some-strip-suffix
-returns-in-Some-strip-suffix c =
+pub returns-in-Some-strip_suffix : goal.returns-in-Some-strip_suffix
+returns-in-Some-strip_suffix c =
     strip_prefix_char 91 c.args.text.now (Some c.in-Some.rest) c.in-Some.ensures.cases (lit< tt)
-    ∙ ap (λ t. 91 ∷ t) (strip_suffix_char 93 c.in-Some.rest.now (Some c.in-Some-strip-suffix.inner) c.in-Some-strip-suffix.ensures.cases (lit< tt))
+    ∙ ap (λ t. 91 ∷ t) (strip_suffix_char 93 c.in-Some.rest.now (Some c.in-Some-strip_suffix.inner) c.in-Some-strip_suffix.ensures.cases (lit< tt))
 
 pub returns-in-None : goal.returns-in-None
 returns-in-None c inner e =

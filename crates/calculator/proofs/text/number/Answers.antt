@@ -15,7 +15,7 @@ Fine bs = (all_ascii_digits bs ≡ true) × (0 < length bs) × (digits_value 10 
 
 not_plus : (c : goal.In-Ok) → get_or c.args.text.now 0 0 ≡ 43 → ⊥
 not_plus c e =
-    let d = starts_char 43 c.args.text.now c.starts-with.result c.starts-with.ensures.cases (lit< tt) (lit< tt) in
+    let d = starts_char 43 c.args.text.now c.starts_with.result c.starts_with.ensures.cases (lit< tt) (lit< tt) in
     let z : ◌≡◌ {A = ℕ} 0 1 = let t = d.1 e in cc in omega arith
 
 pub returns-in-Ok : goal.returns-in-Ok

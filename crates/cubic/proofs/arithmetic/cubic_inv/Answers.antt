@@ -12,7 +12,7 @@ returns-in-default g c b e =
     let w = s.mean c.args.w.now in
     let a = triple s.mean c.args.a.now in
     c.in-default.ensures (norm o w b)
-    (ap (λ n. o.mul n (norm o w b)) c.cubic-norm.ensures ∙ norm_inverse o g.met.S.System.lawful.ring w a b e)
+    (ap (λ n. o.mul n (norm o w b)) c.cubic_norm.ensures ∙ norm_inverse o g.met.S.System.lawful.ring w a b e)
 
 pub returns : goal.returns
 returns g c =
@@ -21,13 +21,13 @@ returns g c =
     let w = s.mean c.args.w.now in
     let a = triple s.mean c.args.a.now in
     let n = s.mean c.in-Some.scalar in
-    let e-a2-w = c.mul-a2-w.ensures in
-    let t0 = c.sub.ensures ∙ ap₂ (sub o) c.square-a0-square.ensures (c.mul.ensures ∙ ap (o.mul a.1.0) e-a2-w) in
-    let t1 = c.sub-2.ensures ∙ ap₂ (sub o) (c.mul-3.ensures ∙ ap (λ t. o.mul t a.1.1.0) e-a2-w) c.mul-a0-a1.ensures in
-    let t2 = c.sub-3.ensures ∙ ap₂ (sub o) c.square-a1-square.ensures c.mul-5.ensures in
+    let e-a2-w = c.mul-a2_w.ensures in
+    let t0 = c.sub.ensures ∙ ap₂ (sub o) c.square-a0_square.ensures (c.mul.ensures ∙ ap (o.mul a.1.0) e-a2-w) in
+    let t1 = c.sub-2.ensures ∙ ap₂ (sub o) (c.mul-3.ensures ∙ ap (λ t. o.mul t a.1.1.0) e-a2-w) c.mul-a0_a1.ensures in
+    let t2 = c.sub-3.ensures ∙ ap₂ (sub o) c.square-a1_square.ensures c.mul-5.ensures in
     ap (binomial 3 o w a)
     (λ i. (
       (c.mul-2.ensures ∙ ap (o.mul n) t0) i,
       ((c.mul-4.ensures ∙ ap (o.mul n) t1) i, ((c.mul-6.ensures ∙ ap (o.mul n) t2) i, tt)),
     ))
-    ∙ inverse_is_by_norm o g.met.S.System.lawful.ring w a n (ap (λ t. o.mul t n) (sym c.cubic-norm.ensures) ∙ c.in-Some.ensures)
+    ∙ inverse_is_by_norm o g.met.S.System.lawful.ring w a n (ap (λ t. o.mul t n) (sym c.cubic_norm.ensures) ∙ c.in-Some.ensures)

@@ -27,13 +27,13 @@ returns g c =
     let o = g.S.System.sys.ops in
     let a = c.args.a.now in
     let w = m c.args.w.now in
-    let e12 = c.mul-a1-w-a2.ensures ∙ ap (o.mul (m a.c1)) c.mul-w-a2.ensures in
-    let e01 = c.mul-a0-a1.ensures in
-    let e02 = c.mul-a0-a2.ensures in
+    let e12 = c.mul-a1_w_a2.ensures ∙ ap (o.mul (m a.c1)) c.mul-w_a2.ensures in
+    let e01 = c.mul-a0_a1.ensures in
+    let e02 = c.mul-a0_a2.ensures in
     (λ i. (
       (c.add-2.ensures ∙ ap₂ o.add c.square.ensures (c.add.ensures ∙ ap₂ o.add e12 e12)) i,
       (
-        (c.add-4.ensures ∙ ap₂ o.add (c.mul.ensures ∙ ap (λ t. o.mul t (m a.c2)) c.mul-w-a2.ensures) (c.add-3.ensures ∙ ap₂ o.add e01 e01)) i,
+        (c.add-4.ensures ∙ ap₂ o.add (c.mul.ensures ∙ ap (λ t. o.mul t (m a.c2)) c.mul-w_a2.ensures) (c.add-3.ensures ∙ ap₂ o.add e01 e01)) i,
         ((c.add-6.ensures ∙ ap₂ o.add c.square-2.ensures (c.add-5.ensures ∙ ap₂ o.add e02 e02)) i, tt),
       ),
     ))

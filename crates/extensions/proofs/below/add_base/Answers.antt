@@ -10,7 +10,7 @@ returns g c =
     let o = g.S.System.sys.ops in
     let x = g.E.Extension in
     let a = x.coefficients c.args.a.now in
-    put_first m o.zero x.d a (x.coefficients c.set-coefficient.new.self) c.add.result c.set-coefficient.ensures
+    put_first m o.zero x.d a (x.coefficients c.set_coefficient.new.self) c.add.result c.set_coefficient.ensures
     ∙ (λ i. (
       (c.add.ensures ∙ ap (λ t. o.add t (m c.args.x.now)) c.coefficient.ensures) i,
       sym (both-fill o.add o.zero g.met.S.System.lawful.ring.add-zero x.d (each x.d m a.1)) i,

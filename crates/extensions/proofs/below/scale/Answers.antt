@@ -15,7 +15,7 @@ loop-k-preserved g c =
     let a = x.coefficients c.args.a.now in
     let lt : c.loop-k.k < suc x.d = omega arith in
     written_more s.mean o.zero (suc x.d) (λ j y. y ≡ o.mul (at' a j) (s.mean c.args.x.now))
-    (x.coefficients c.loop-k.res) (x.coefficients c.set-coefficient.new.self) c.loop-k.k c.mul.result c.set-coefficient.ensures lt
+    (x.coefficients c.loop-k.res) (x.coefficients c.set_coefficient.new.self) c.loop-k.k c.mul.result c.set_coefficient.ensures lt
     c.loop-k.invariant (c.mul.ensures ∙ ap (λ t. o.mul t (s.mean c.args.x.now)) c.coefficient.ensures)
 
 pub returns : goal.returns

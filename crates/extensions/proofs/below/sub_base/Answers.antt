@@ -13,7 +13,7 @@ returns g c =
     let L = g.met.S.System.lawful.ring in
     let x = g.E.Extension in
     let a = x.coefficients c.args.a.now in
-    put_first m o.zero x.d a (x.coefficients c.set-coefficient.new.self) c.sub.result c.set-coefficient.ensures
+    put_first m o.zero x.d a (x.coefficients c.set_coefficient.new.self) c.sub.result c.set_coefficient.ensures
     ∙ (λ i. (
       (c.sub.ensures ∙ ap (λ t. sub o t (m c.args.x.now)) c.coefficient.ensures) i,
       sym (both-fill (sub o) o.zero (λ y. ap (o.add y) (neg-zero o L) ∙ L.add-zero y) x.d (each x.d m a.1)) i,

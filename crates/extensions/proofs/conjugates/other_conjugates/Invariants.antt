@@ -10,5 +10,5 @@ invariant-loop-k g l =
     let s = g.S.System in
     let x = g.E.Extension in
     let φ = g.E.Conjugates.conjugate (suc x.d) s.sys.Elem s.sys.ops s.mean in
-    each (suc x.d) s.mean (x.coefficients l.prod-conj)
-    ≡ φ (conjugates (extend x.d s.sys.ops (x.product s.sys.Elem s.sys.ops s.mean)) φ (l.-k - 1) (each (suc x.d) s.mean (x.coefficients l.a)))
+    each (suc x.d) s.mean (x.coefficients l.prod_conj)
+    ≡ φ (conjugates (extend x.d s.sys.ops (x.product s.sys.Elem s.sys.ops s.mean)) φ (l._k - 1) (each (suc x.d) s.mean (x.coefficients l.a)))

@@ -16,16 +16,16 @@ returns-in-Some g c =
     let means = λ (v : _). each (suc x.d) s.mean (x.coefficients v) in
     let times = x.product s.sys.Elem o s.mean in
     let φ = g.E.Conjugates.conjugate (suc x.d) s.sys.Elem o s.mean in
-    let C = c.other-conjugates-prod-conj.ensures.conjugation in
+    let C = c.other_conjugates-prod_conj.ensures.conjugation in
     let a = c.args.a.now in
     let n = s.mean c.in-Some.scalar in
     let norm : s.mean c.coefficient-norm.result ≡ (times (means a) (others x.d o L times e.ring e.scaling φ C (means a))).0 =
     c.coefficient-norm.ensures
-    ∙ ap (λ t. t.0) (product_means x.d s.sys times g.E.System.sys e g.E.System.mean means same a c.other-conjugates-prod-conj.result c.mul.result c.mul.ensures
-    ∙ ap (times (means a)) c.other-conjugates-prod-conj.ensures.product) in (
+    ∙ ap (λ t. t.0) (product_means x.d s.sys times g.E.System.sys e g.E.System.mean means same a c.other_conjugates-prod_conj.result c.mul.result c.mul.ensures
+    ∙ ap (times (means a)) c.other_conjugates-prod_conj.ensures.product) in (
       λ z. absurd (c.if-same.ensures.different (z ∙ sym c.zero-zero.ensures)),
       λ _. inverse_means x.d s.sys times g.E.System.sys e g.E.System.mean means same a c.scale.result
-          (ap (times (means a)) (c.scale.ensures ∙ ap (scaled (suc x.d) o n) c.other-conjugates-prod-conj.ensures.product)
+          (ap (times (means a)) (c.scale.ensures ∙ ap (scaled (suc x.d) o n) c.other_conjugates-prod_conj.ensures.product)
           ∙ inverse_by_conjugates x.d o L times e.ring e.scaling φ C (means a) n (ap (λ t. o.mul t n) (sym norm) ∙ c.in-Some.ensures)),
     )
 
@@ -40,12 +40,12 @@ returns-in-None g c =
     let means = λ (v : _). each (suc x.d) s.mean (x.coefficients v) in
     let times = x.product s.sys.Elem o s.mean in
     let φ = g.E.Conjugates.conjugate (suc x.d) s.sys.Elem o s.mean in
-    let C = c.other-conjugates-prod-conj.ensures.conjugation in
+    let C = c.other_conjugates-prod_conj.ensures.conjugation in
     let a = c.args.a.now in
     let norm : s.mean c.coefficient-norm.result ≡ (times (means a) (others x.d o L times e.ring e.scaling φ C (means a))).0 =
     c.coefficient-norm.ensures
-    ∙ ap (λ t. t.0) (product_means x.d s.sys times g.E.System.sys e g.E.System.mean means same a c.other-conjugates-prod-conj.result c.mul.result c.mul.ensures
-    ∙ ap (times (means a)) c.other-conjugates-prod-conj.ensures.product) in (
+    ∙ ap (λ t. t.0) (product_means x.d s.sys times g.E.System.sys e g.E.System.mean means same a c.other_conjugates-prod_conj.result c.mul.result c.mul.ensures
+    ∙ ap (times (means a)) c.other_conjugates-prod_conj.ensures.product) in (
       λ z. c.if-same.ensures.different (z ∙ sym c.zero-zero.ensures),
       λ b p.
           let t = e.tuple b in

@@ -22,7 +22,7 @@ loop-k-preserved g c =
       c.next.ensures.current ∙ ap₂ o.mul c.loop-k.invariant.1 (ap s.mean c.loop-k.invariant.0) ∙ g.met.S.System.lawful.ring.mul_comm (p k) z
           ∙ ap p (sym (add-one k)),
       written_more s.mean o.zero (suc x.d) (λ j y. y ≡ o.mul (at' a j) (p j))
-          (x.coefficients c.loop-k.res) (x.coefficients c.set-coefficient.new.self) k c.mul.result c.set-coefficient.ensures lt
+          (x.coefficients c.loop-k.res) (x.coefficients c.set_coefficient.new.self) k c.mul.result c.set_coefficient.ensures lt
           c.loop-k.invariant.2
           (c.mul.ensures ∙ ap₂ o.mul c.coefficient.ensures (ap s.mean c.next.ensures.answer ∙ c.loop-k.invariant.1)),
     )

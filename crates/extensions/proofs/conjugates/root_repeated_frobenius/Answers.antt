@@ -14,7 +14,7 @@ returns g c law =
     let L = g.met.S.System.lawful.ring in
     let z = s.mean c.args.z.now in
     let a = each n s.mean (x.coefficients c.args.a.now) in
-    c.root_frobenius_map.ensures
+    c.root_frobenius.ensures
     ∙ ap (λ t. root_frobenius_map n o t a)
-    (c.exp-u64-z0.ensures ∙ ap (λ k. power o z (c.args.count % k)) c.degree.ensures ∙ root_modulo o L z n c.args.count law)
+    (c.exp_u64-z0.ensures ∙ ap (λ k. power o z (c.args.count % k)) c.degree.ensures ∙ root_modulo o L z n c.args.count law)
     ∙ root_repeated o L z n c.args.count a

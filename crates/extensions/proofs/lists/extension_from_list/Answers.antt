@@ -19,15 +19,15 @@ returns-then-numbers-degree-ne0 g c =
 pub loop-k-init : goal.loop-k-init
 loop-k-init g c j h = absurd (omega arith)
 
-pub offset-bounds-numbers-start : goal.offset-bounds-numbers-start
-offset-bounds-numbers-start g c =
+pub offset_bounds-numbers-start : goal.offset_bounds-numbers-start
+offset_bounds-numbers-start g c =
     let n = c.degree-degree.result in
     let len = length c.args.numbers.now in
     let h : c.loop-k.k * (len / n) + len / n ≤ len = part_within n (len / n) c.loop-k.k len c.loop-k-test.true (whole_parts n len c.if-numbers-degree-ne0.false) in
     search rules
 
-pub slice-bounds-from-list-end : goal.slice-bounds-from-list-end
-slice-bounds-from-list-end g c =
+pub slice_bounds-from_list-end : goal.slice_bounds-from_list-end
+slice_bounds-from_list-end g c =
     let n = c.degree-degree.result in
     let len = length c.args.numbers.now in
     let h : c.loop-k.k * (len / n) + len / n ≤ len = part_within n (len / n) c.loop-k.k len c.loop-k-test.true (whole_parts n len c.if-numbers-degree-ne0.false) in
@@ -56,7 +56,7 @@ loop-k-preserved g c =
     let k = c.loop-k.k in
     let lt : k < suc x.d = omega (arith, c.degree-degree.ensures, c.loop-k-test.true) in
     written_more s.mean s.sys.ops.zero (suc x.d) (λ j y. s.sys.list y ≡ take p (drop (j * p) c.args.numbers.now))
-    (x.coefficients c.loop-k.res) (x.coefficients c.set-coefficient.new.self) k c.in-Ok.x c.set-coefficient.ensures lt
+    (x.coefficients c.loop-k.res) (x.coefficients c.set_coefficient.new.self) k c.in-Ok.x c.set_coefficient.ensures lt
     c.loop-k.invariant (c.in-Ok.ensures ∙ ap (λ n. take n (drop (k * p) c.args.numbers.now)) (Nat.add-sub_cancel_left (k * p) p))
 
 pub returns : goal.returns

@@ -7,8 +7,8 @@ use Rattle.extensions.proofs.Cuts.{size_positive, beyond_parts, shown_at}
 use Rattle.extensions.proofs.lists.extension_number_at.Goals as goal
 use Rattle.extensions.proofs.lists.extension_number_at.Goals.{then-place-ge-SHOWN-via-then-place-ge-SHOWN, then-place-ge-SHOWN-via-else-place-ge-SHOWN+then-power-degree}
 
-pub nonzero-div-power : goal.nonzero-div-power
-nonzero-div-power g c = let h = size_positive g.S.System.sys g.met.S.System.lawful in omega (arith, c.size-part.ensures)
+pub nonzero_div-power : goal.nonzero_div-power
+nonzero_div-power g c = let h = size_positive g.S.System.sys g.met.S.System.lawful in omega (arith, c.size-part.ensures)
 
 pub returns-then-place-ge-SHOWN : goal.returns-then-place-ge-SHOWN
 returns-then-place-ge-SHOWN g c =
@@ -26,8 +26,8 @@ returns-then-place-ge-SHOWN g c =
           (subst (λ m. suc g.E.Extension.d ≤ place / m) c.size-part.ensures (subst (λ m. m ≤ place / c.size-part.result) w.degree.ensures w.if-power-degree.true))))
     ]
 
-pub nonzero-rem-place : goal.nonzero-rem-place
-nonzero-rem-place g c = let h = size_positive g.S.System.sys g.met.S.System.lawful in omega (arith, c.size-part.ensures)
+pub nonzero_rem-place : goal.nonzero_rem-place
+nonzero_rem-place g c = let h = size_positive g.S.System.sys g.met.S.System.lawful in omega (arith, c.size-part.ensures)
 
 pub returns : goal.returns
 returns g c =
@@ -43,7 +43,7 @@ returns g c =
     let some : 0 < part = omega (arith, c.size-part.ensures) in
     let rest : place % part < 65535 = let h = Nat.mod-lt place some in omega (arith, c.size-part.ensures) in
     let lt : place / min s.sys.size 65535 < n = subst (λ m. place / m < n) c.size-part.ensures (omega (arith, c.degree.ensures, c.if-power-degree.false)) in
-    c.number-at.ensures
+    c.number_at.ensures
     ∙ get_or-take 65535 (s.sys.list (s.mean c.coefficient.result)) (place % part) 0 rest
     ∙ ap (λ y. get_or (s.sys.list y) (place % part) 0) c.coefficient.ensures
     ∙ ap (λ m. get_or (s.sys.list (get_or (entries n t) (place / m) s.sys.ops.zero)) (place % m) 0) c.size-part.ensures

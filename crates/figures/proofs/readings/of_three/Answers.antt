@@ -3,4 +3,4 @@ use Rattle.figures.proofs.readings.of_three.Goals as goal
 
 pub returns : goal.returns
 unfolding after
-returns c = c.figure-after.ensures
+returns c = c.figure_after.ensures

@@ -101,8 +101,8 @@ returns c = record {
     inverse_8 = inverse_shown system_8 lawful_8 mean_8 one_and_x_8 inverse_of_8 rows.inverse_8 c.inverse-4.result c.inverse-4.ensures;
     inverse_9 = inverse_shown system_9 lawful_9 mean_9 two_and_x inverse_of_9 rows.inverse_9 c.inverse-5.result c.inverse-5.ensures;
     refused_9 = refused_shown system_9 lawful_9 mean_9 one_and_x_9 rows.refused_9 c.inverse-6.result c.inverse-6.ensures;
-    drop_8 = c.after-a-drop.ensures;
-    ones_8 = c.of-one-and-one.ensures;
-    three_8 = c.of-three.ensures;
+    drop_8 = c.after_a_drop.ensures;
+    ones_8 = c.of_one_and_one.ensures;
+    three_8 = c.of_three.ensures;
   };
 }

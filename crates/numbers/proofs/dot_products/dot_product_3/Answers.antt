@@ -8,6 +8,6 @@ pub returns : goal.returns
 returns g c =
     let m = g.S.System.mean in
     let o = g.S.System.sys.ops in
-    c.dot-product-4.ensures
+    c.dot_product_4.ensures
     ∙ ap (λ z. dot o (m c.args.a0.now ∷ m c.args.a1.now ∷ m c.args.a2.now ∷ z ∷ []) (m c.args.b0.now ∷ m c.args.b1.now ∷ m c.args.b2.now ∷ z ∷ [])) c.zero-zero.ensures
     ∙ total_filled o g.met.S.System.lawful.ring (products o (m c.args.a0.now ∷ m c.args.a1.now ∷ m c.args.a2.now ∷ []) (m c.args.b0.now ∷ m c.args.b1.now ∷ m c.args.b2.now ∷ [])) 1

@@ -12,4 +12,4 @@ returns g c =
     total-joined o L _ _ _
     (products o (m c.args.a0.now ∷ m c.args.a1.now ∷ m c.args.a2.now ∷ m c.args.a3.now ∷ []) (m c.args.b0.now ∷ m c.args.b1.now ∷ m c.args.b2.now ∷ m c.args.b3.now ∷ []))
     (products o (m c.args.a4.now ∷ m c.args.a5.now ∷ m c.args.a6.now ∷ []) (m c.args.b4.now ∷ m c.args.b5.now ∷ m c.args.b6.now ∷ []))
-    c.add.ensures c.dot-product-4-low.ensures c.dot-product-3-high.ensures
+    c.add.ensures c.dot_product_4-low.ensures c.dot_product_3-high.ensures

@@ -28,9 +28,9 @@ pub returns : goal.returns
 returns g c =
     let s = g.S.System in
     let L = g.met.S.System.lawful.ring in
-    let j-is : c.loop-j.j ≡ c.bits-u64-j-end.result = omega arith in
+    let j-is : c.loop-j.j ≡ c.bits_u64-j-end.result = omega arith in
     let none : c.args.exponent / 2 ^ c.loop-j.j ≡ 0 =
-    subst (λ t. c.args.exponent / 2 ^ t ≡ 0) (sym j-is) (div-eq_of_lt c.bits-u64-j-end.ensures.above) in
+    subst (λ t. c.args.exponent / 2 ^ t ≡ 0) (sym j-is) (div-eq_of_lt c.bits_u64-j-end.ensures.above) in
     sym (L.mul-one (s.mean c.loop-j.product))
     ∙ ap (λ t. s.sys.ops.mul (s.mean c.loop-j.product) (power s.sys.ops (s.mean c.loop-j.current) t)) (sym none)
     ∙ c.loop-j.invariant

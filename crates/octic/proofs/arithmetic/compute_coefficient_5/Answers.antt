@@ -28,6 +28,6 @@ returns g c =
     let b6 = m c.args.b.now.c6 in
     let b7 = m c.args.b.now.c7 in
     let w = m c.args.w.now in
-    c.dot-product-7.ensures ∙ ap (λ t. dot o (a0 ∷ a1 ∷ a2 ∷ a3 ∷ a4 ∷ a5 ∷ t ∷ []) (b5 ∷ b4 ∷ b3 ∷ b2 ∷ b1 ∷ b0 ∷ w ∷ [])) c.dot-product-2-w-coeff.ensures
+    c.dot_product_7.ensures ∙ ap (λ t. dot o (a0 ∷ a1 ∷ a2 ∷ a3 ∷ a4 ∷ a5 ∷ t ∷ []) (b5 ∷ b4 ∷ b3 ∷ b2 ∷ b1 ∷ b0 ∷ w ∷ [])) c.dot_product_2-w_coeff.ensures
     ∙ solve o g.met.S.System.lawful.ring (among o (a0 ∷ a1 ∷ a2 ∷ a3 ∷ a4 ∷ a5 ∷ a6 ∷ a7 ∷ b0 ∷ b1 ∷ b2 ∷ b3 ∷ b4 ∷ b5 ∷ b6 ∷ b7 ∷ w ∷ []))
     (dot exprs (var 0 ∷ var 1 ∷ var 2 ∷ var 3 ∷ var 4 ∷ var 5 ∷ dot exprs (var 6 ∷ var 7 ∷ []) (var 15 ∷ var 14 ∷ []) ∷ []) (var 13 ∷ var 12 ∷ var 11 ∷ var 10 ∷ var 9 ∷ var 8 ∷ var 16 ∷ [])) (binomial 8 exprs (var 16) (vars 8 0) (vars 8 8)).1.1.1.1.1.0 tt

@@ -12,7 +12,7 @@ returns-in-default g c b e =
     let w = s.mean c.args.w.now in
     let a = octuple s.mean c.args.a.now in
     c.in-default.ensures (octic_norm_of o w b)
-    (ap (λ n. binomial 4 o w n (octic_norm_of o w b)) c.octic_norm_of.ensures ∙ octic_norm_inverse o g.met.S.System.lawful.ring w a b e)
+    (ap (λ n. binomial 4 o w n (octic_norm_of o w b)) c.octic_norm.ensures ∙ octic_norm_inverse o g.met.S.System.lawful.ring w a b e)
 
 pub returns : goal.returns
 returns g c =
@@ -20,9 +20,9 @@ returns g c =
     let o = g.S.System.sys.ops in
     let w = s.mean c.args.w.now in
     let a = octuple s.mean c.args.a.now in
-    let n = quadruple s.mean c.in-Some.norm-inv in
-    let evens = c.quartic-mul-out-evn.ensures in
-    let odds = c.quartic-mul-out-odd.ensures in
+    let n = quadruple s.mean c.in-Some.norm_inv in
+    let evens = c.quartic_mul-out_evn.ensures in
+    let odds = c.quartic_mul-out_odd.ensures in
     ap (binomial 8 o w a) (λ i. (
       (evens i).0,
       (
@@ -45,4 +45,4 @@ returns g c =
         ),
       ),
     ))
-    ∙ octic_inverse o g.met.S.System.lawful.ring w a n (ap (λ t. binomial 4 o w t n) (sym c.octic_norm_of.ensures) ∙ c.in-Some.ensures)
+    ∙ octic_inverse o g.met.S.System.lawful.ring w a n (ap (λ t. binomial 4 o w t n) (sym c.octic_norm.ensures) ∙ c.in-Some.ensures)

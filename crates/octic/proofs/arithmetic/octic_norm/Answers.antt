@@ -14,10 +14,10 @@ returns g c =
     let a = octuple s.mean c.args.a.now in
     let evens = binomial 4 o w (split a).0 (split a).0 in
     let odds = binomial 4 o w (split a).1.0 (split a).1.0 in
-    let e = c.quartic-square-evns-sq.ensures in
-    let f = c.quartic-square-odds-sq.ensures in
+    let e = c.quartic_square-evns_sq.ensures in
+    let f = c.quartic_square-odds_sq.ensures in
     (λ i. (
-      (c.sub.ensures ∙ ap₂ (λ x y. sub o x.0 y) e (c.mul-w-odds.ensures ∙ ap (λ t. o.mul w t.1.1.1.0) f)) i,
+      (c.sub.ensures ∙ ap₂ (λ x y. sub o x.0 y) e (c.mul-w_odds.ensures ∙ ap (λ t. o.mul w t.1.1.1.0) f)) i,
       (
         (c.sub-2.ensures ∙ ap₂ (λ x y. sub o x.1.0 y.0) e f) i,
         (

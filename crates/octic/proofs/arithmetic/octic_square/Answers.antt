@@ -19,24 +19,24 @@ returns g c =
     let a6 = m c.args.a.now.c6 in
     let a7 = m c.args.a.now.c7 in
     let w = m c.args.w.now in
-    let d5 = c.add-w-a5-2.ensures ∙ (λ j. o.add (c.mul-w-a5.ensures j) (c.mul-w-a5.ensures j)) in
-    let d6 = c.add-w-a6-2.ensures ∙ (λ j. o.add (c.mul-w-a6.ensures j) (c.mul-w-a6.ensures j)) in
-    let d7 = c.add-w-a7-2.ensures ∙ (λ j. o.add (c.mul-w-a7.ensures j) (c.mul-w-a7.ensures j)) in
+    let d5 = c.add-w_a5_2.ensures ∙ (λ j. o.add (c.mul-w_a5.ensures j) (c.mul-w_a5.ensures j)) in
+    let d6 = c.add-w_a6_2.ensures ∙ (λ j. o.add (c.mul-w_a6.ensures j) (c.mul-w_a6.ensures j)) in
+    let d7 = c.add-w_a7_2.ensures ∙ (λ j. o.add (c.mul-w_a7.ensures j) (c.mul-w_a7.ensures j)) in
     (λ i. (
-      (c.dot-product-5.ensures ∙ (λ j. dot o (a0 ∷ a1 ∷ a2 ∷ a3 ∷ a4 ∷ []) (a0 ∷ d7 j ∷ d6 j ∷ d5 j ∷ c.mul-w-a4.ensures j ∷ []))) i,
+      (c.dot_product_5.ensures ∙ (λ j. dot o (a0 ∷ a1 ∷ a2 ∷ a3 ∷ a4 ∷ []) (a0 ∷ d7 j ∷ d6 j ∷ d5 j ∷ c.mul-w_a4.ensures j ∷ []))) i,
       (
-        (c.dot-product-4.ensures ∙ (λ j. dot o (c.add-a0-2.ensures j ∷ a2 ∷ a3 ∷ a4 ∷ []) (a1 ∷ d7 j ∷ d6 j ∷ d5 j ∷ []))) i,
+        (c.dot_product_4.ensures ∙ (λ j. dot o (c.add-a0_2.ensures j ∷ a2 ∷ a3 ∷ a4 ∷ []) (a1 ∷ d7 j ∷ d6 j ∷ d5 j ∷ []))) i,
         (
-          (c.dot-product-5-2.ensures ∙ (λ j. dot o (c.add-a0-2.ensures j ∷ a1 ∷ a3 ∷ a4 ∷ a5 ∷ []) (a2 ∷ a1 ∷ d7 j ∷ d6 j ∷ c.mul-w-a5.ensures j ∷ []))) i,
+          (c.dot_product_5-2.ensures ∙ (λ j. dot o (c.add-a0_2.ensures j ∷ a1 ∷ a3 ∷ a4 ∷ a5 ∷ []) (a2 ∷ a1 ∷ d7 j ∷ d6 j ∷ c.mul-w_a5.ensures j ∷ []))) i,
           (
-            (c.dot-product-4-2.ensures ∙ (λ j. dot o (c.add-a0-2.ensures j ∷ c.add-a1-2.ensures j ∷ a4 ∷ a5 ∷ []) (a3 ∷ a2 ∷ d7 j ∷ d6 j ∷ []))) i,
+            (c.dot_product_4-2.ensures ∙ (λ j. dot o (c.add-a0_2.ensures j ∷ c.add-a1_2.ensures j ∷ a4 ∷ a5 ∷ []) (a3 ∷ a2 ∷ d7 j ∷ d6 j ∷ []))) i,
             (
-              (c.dot-product-5-3.ensures ∙ (λ j. dot o (c.add-a0-2.ensures j ∷ c.add-a1-2.ensures j ∷ a2 ∷ a5 ∷ a6 ∷ []) (a4 ∷ a3 ∷ a2 ∷ d7 j ∷ c.mul-w-a6.ensures j ∷ []))) i,
+              (c.dot_product_5-3.ensures ∙ (λ j. dot o (c.add-a0_2.ensures j ∷ c.add-a1_2.ensures j ∷ a2 ∷ a5 ∷ a6 ∷ []) (a4 ∷ a3 ∷ a2 ∷ d7 j ∷ c.mul-w_a6.ensures j ∷ []))) i,
               (
-                (c.dot-product-4-3.ensures ∙ (λ j. dot o (c.add-a0-2.ensures j ∷ c.add-a1-2.ensures j ∷ c.add-a2-2.ensures j ∷ a6 ∷ []) (a5 ∷ a4 ∷ a3 ∷ d7 j ∷ []))) i,
+                (c.dot_product_4-3.ensures ∙ (λ j. dot o (c.add-a0_2.ensures j ∷ c.add-a1_2.ensures j ∷ c.add-a2_2.ensures j ∷ a6 ∷ []) (a5 ∷ a4 ∷ a3 ∷ d7 j ∷ []))) i,
                 (
-                  (c.dot-product-5-4.ensures ∙ (λ j. dot o (c.add-a0-2.ensures j ∷ c.add-a1-2.ensures j ∷ c.add-a2-2.ensures j ∷ a3 ∷ a7 ∷ []) (a6 ∷ a5 ∷ a4 ∷ a3 ∷ c.mul-w-a7.ensures j ∷ []))) i,
-                  ((c.dot-product-4-4.ensures ∙ (λ j. dot o (c.add-a0-2.ensures j ∷ c.add-a1-2.ensures j ∷ c.add-a2-2.ensures j ∷ c.add-a3-2.ensures j ∷ []) (a7 ∷ a6 ∷ a5 ∷ a4 ∷ []))) i, tt),
+                  (c.dot_product_5-4.ensures ∙ (λ j. dot o (c.add-a0_2.ensures j ∷ c.add-a1_2.ensures j ∷ c.add-a2_2.ensures j ∷ a3 ∷ a7 ∷ []) (a6 ∷ a5 ∷ a4 ∷ a3 ∷ c.mul-w_a7.ensures j ∷ []))) i,
+                  ((c.dot_product_4-4.ensures ∙ (λ j. dot o (c.add-a0_2.ensures j ∷ c.add-a1_2.ensures j ∷ c.add-a2_2.ensures j ∷ c.add-a3_2.ensures j ∷ []) (a7 ∷ a6 ∷ a5 ∷ a4 ∷ []))) i, tt),
                 ),
               ),
             ),

@@ -13,8 +13,8 @@ returns g c =
     let a0 = m c.args.a.now.c0 in
     let a1 = m c.args.a.now.c1 in
     (λ i. (
-      (c.dot-product-2.ensures ∙ ap (λ t. dot o (a0 ∷ a1 ∷ []) (a0 ∷ t ∷ [])) c.mul-a1-w.ensures) i,
-      ((c.mul.ensures ∙ ap (o.mul a0) c.add-two-a1.ensures) i, tt),
+      (c.dot_product_2.ensures ∙ ap (λ t. dot o (a0 ∷ a1 ∷ []) (a0 ∷ t ∷ [])) c.mul-a1_w.ensures) i,
+      ((c.mul.ensures ∙ ap (o.mul a0) c.add-two_a1.ensures) i, tt),
     ))
     ∙ solves o g.met.S.System.lawful.ring (among o (a0 ∷ a1 ∷ m c.args.w.now ∷ [])) 2
     (dot exprs (var 0 ∷ var 1 ∷ []) (var 0 ∷ (var 1 ⊠ var 2) ∷ []), (var 0 ⊠ (var 1 ⊞ var 1), tt))

@@ -11,7 +11,7 @@ returns-in-default g c b e =
     let w = s.mean c.args.w.now in
     let a = pair s.mean c.args.a.now in
     c.in-default.ensures (norm o w b)
-    (ap (λ n. o.mul n (norm o w b)) c.quadratic-norm.ensures ∙ norm_inverse o g.met.S.System.lawful.ring w a b e)
+    (ap (λ n. o.mul n (norm o w b)) c.quadratic_norm.ensures ∙ norm_inverse o g.met.S.System.lawful.ring w a b e)
 
 pub returns : goal.returns
 returns g c =
@@ -21,4 +21,4 @@ returns g c =
     let a = pair s.mean c.args.a.now in
     let n = s.mean c.in-Some.scalar in
     ap (binomial 2 o w a) (λ i. (c.mul.ensures i, ((c.mul-2.ensures ∙ ap (λ t. o.mul t n) c.neg.ensures) i, tt)))
-    ∙ inverse_is_by_norm o g.met.S.System.lawful.ring w a n (ap (λ t. o.mul t n) (sym c.quadratic-norm.ensures) ∙ c.in-Some.ensures)
+    ∙ inverse_is_by_norm o g.met.S.System.lawful.ring w a n (ap (λ t. o.mul t n) (sym c.quadratic_norm.ensures) ∙ c.in-Some.ensures)

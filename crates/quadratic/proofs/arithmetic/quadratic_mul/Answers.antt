@@ -14,8 +14,8 @@ returns g c =
     let b = c.args.b.now in
     let w = m c.args.w.now in
     (λ i. (
-      (c.dot-product-2.ensures ∙ ap (λ t. dot o (m a.c0 ∷ m a.c1 ∷ []) (m b.c0 ∷ t ∷ [])) c.mul-b1-w.ensures) i,
-      (c.dot-product-2-2.ensures i, tt),
+      (c.dot_product_2.ensures ∙ ap (λ t. dot o (m a.c0 ∷ m a.c1 ∷ []) (m b.c0 ∷ t ∷ [])) c.mul-b1_w.ensures) i,
+      (c.dot_product_2-2.ensures i, tt),
     ))
     ∙ solves o g.met.S.System.lawful.ring (among o (m a.c0 ∷ m a.c1 ∷ m b.c0 ∷ m b.c1 ∷ w ∷ [])) 2
     (dot exprs (var 0 ∷ var 1 ∷ []) (var 2 ∷ (var 3 ⊠ var 4) ∷ []), (dot exprs (var 0 ∷ var 1 ∷ []) (var 3 ∷ var 2 ∷ []), tt))

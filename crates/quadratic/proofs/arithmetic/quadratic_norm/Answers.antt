@@ -12,7 +12,7 @@ returns g c =
     let o = g.S.System.sys.ops in
     let a0 = m c.args.a.now.c0 in
     let a1 = m c.args.a.now.c1 in
-    c.dot-product-2.ensures
+    c.dot_product_2.ensures
     ∙ ap₂ (λ s t. dot o (a0 ∷ s ∷ []) (a0 ∷ t ∷ [])) c.neg.ensures c.mul.ensures
     ∙ solve o g.met.S.System.lawful.ring (among o (a0 ∷ a1 ∷ m c.args.w.now ∷ []))
     (dot exprs (var 0 ∷ ⊟ (var 1) ∷ []) (var 0 ∷ (var 2 ⊠ var 1) ∷ [])) (norm exprs (var 2) (var 0, (var 1, tt))) tt

@@ -12,7 +12,7 @@ returns-in-default g c b e =
     let w = s.mean c.args.w.now in
     let a = quadruple s.mean c.args.a.now in
     c.in-default.ensures (quartic_norm_of o w b)
-    (ap (λ n. binomial 2 o w n (quartic_norm_of o w b)) c.quartic_norm_of.ensures ∙ quartic_norm_inverse o g.met.S.System.lawful.ring w a b e)
+    (ap (λ n. binomial 2 o w n (quartic_norm_of o w b)) c.quartic_norm.ensures ∙ quartic_norm_inverse o g.met.S.System.lawful.ring w a b e)
 
 pub returns : goal.returns
 returns g c =
@@ -21,8 +21,8 @@ returns g c =
     let w = s.mean c.args.w.now in
     let a = quadruple s.mean c.args.a.now in
     let n = pair s.mean c.in-Some.inv in
-    let evens = c.quadratic-mul-out-evn.ensures in
-    let odds = c.quadratic-mul-out-odd.ensures in
+    let evens = c.quadratic_mul-out_evn.ensures in
+    let odds = c.quadratic_mul-out_odd.ensures in
     ap (binomial 4 o w a) (λ i. (
       (evens i).0,
       (
@@ -30,4 +30,4 @@ returns g c =
         ((evens i).1.0, ((c.neg-2.ensures ∙ ap (λ t. o.neg t.1.0) odds) i, tt)),
       ),
     ))
-    ∙ quartic_inverse o g.met.S.System.lawful.ring w a n (ap (λ t. binomial 2 o w t n) (sym c.quartic_norm_of.ensures) ∙ c.in-Some.ensures)
+    ∙ quartic_inverse o g.met.S.System.lawful.ring w a n (ap (λ t. binomial 2 o w t n) (sym c.quartic_norm.ensures) ∙ c.in-Some.ensures)

@@ -20,12 +20,12 @@ returns g c =
     let b3 = m c.args.b.now.c3 in
     let w = m c.args.w.now in
     (λ i. (
-      (c.dot-product-2.ensures ∙ ap (λ t. dot o (a0 ∷ t ∷ []) (b0 ∷ w ∷ [])) c.dot-product-3-w-coeff-0.ensures) i,
+      (c.dot_product_2.ensures ∙ ap (λ t. dot o (a0 ∷ t ∷ []) (b0 ∷ w ∷ [])) c.dot_product_3-w_coeff_0.ensures) i,
       (
-        (c.dot-product-3.ensures ∙ ap (λ t. dot o (a0 ∷ a1 ∷ t ∷ []) (b1 ∷ b0 ∷ w ∷ [])) c.dot-product-2-w-coeff-1.ensures) i,
+        (c.dot_product_3.ensures ∙ ap (λ t. dot o (a0 ∷ a1 ∷ t ∷ []) (b1 ∷ b0 ∷ w ∷ [])) c.dot_product_2-w_coeff_1.ensures) i,
         (
-          (c.dot-product-4.ensures ∙ ap (λ t. dot o (a0 ∷ a1 ∷ a2 ∷ a3 ∷ []) (b2 ∷ b1 ∷ b0 ∷ t ∷ [])) c.mul-b3-w.ensures) i,
-          (c.dot-product-4-2.ensures i, tt),
+          (c.dot_product_4.ensures ∙ ap (λ t. dot o (a0 ∷ a1 ∷ a2 ∷ a3 ∷ []) (b2 ∷ b1 ∷ b0 ∷ t ∷ [])) c.mul-b3_w.ensures) i,
+          (c.dot_product_4-2.ensures i, tt),
         ),
       ),
     ))

@@ -15,14 +15,14 @@ returns g c =
     let a2 = m c.args.a.now.c2 in
     let a3 = m c.args.a.now.c3 in
     let w = m c.args.w.now in
-    let n1 = c.neg-neg-a1.ensures in
-    let two-n1 = c.add-two-neg-a1.ensures ∙ (λ j. o.add (n1 j) (n1 j)) in
+    let n1 = c.neg-neg_a1.ensures in
+    let two-n1 = c.add-two_neg_a1.ensures ∙ (λ j. o.add (n1 j) (n1 j)) in
     (λ i. (
-      (c.dot-product-3-norm-0.ensures
-          ∙ (λ j. dot o (a0 ∷ a2 ∷ two-n1 j ∷ []) (a0 ∷ c.mul-a2-w.ensures j ∷ c.mul-a3-w.ensures j ∷ []))) i,
+      (c.dot_product_3-norm_0.ensures
+          ∙ (λ j. dot o (a0 ∷ a2 ∷ two-n1 j ∷ []) (a0 ∷ c.mul-a2_w.ensures j ∷ c.mul-a3_w.ensures j ∷ []))) i,
       (
-        (c.dot-product-3-norm-1.ensures
-            ∙ (λ j. dot o (a0 ∷ a1 ∷ c.neg-neg-a3.ensures j ∷ []) (c.add-two-a2.ensures j ∷ n1 j ∷ c.mul-a3-w.ensures j ∷ []))) i,
+        (c.dot_product_3-norm_1.ensures
+            ∙ (λ j. dot o (a0 ∷ a1 ∷ c.neg-neg_a3.ensures j ∷ []) (c.add-two_a2.ensures j ∷ n1 j ∷ c.mul-a3_w.ensures j ∷ []))) i,
         tt,
       ),
     ))

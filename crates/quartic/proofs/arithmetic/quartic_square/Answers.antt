@@ -16,14 +16,14 @@ returns g c =
     let a3 = m c.args.a.now.c3 in
     let w = m c.args.w.now in
     (λ i. (
-      (c.dot-product-3.ensures
-          ∙ (λ j. dot o (a0 ∷ c.mul-a2-w.ensures j ∷ c.add-two-a1.ensures j ∷ []) (a0 ∷ a2 ∷ c.mul-a3-w.ensures j ∷ []))) i,
+      (c.dot_product_3.ensures
+          ∙ (λ j. dot o (a0 ∷ c.mul-a2_w.ensures j ∷ c.add-two_a1.ensures j ∷ []) (a0 ∷ a2 ∷ c.mul-a3_w.ensures j ∷ []))) i,
       (
-        (c.dot-product-2.ensures ∙ (λ j. dot o (c.add-two-a0.ensures j ∷ c.add-two-a2.ensures j ∷ []) (a1 ∷ c.mul-a3-w.ensures j ∷ []))) i,
+        (c.dot_product_2.ensures ∙ (λ j. dot o (c.add-two_a0.ensures j ∷ c.add-two_a2.ensures j ∷ []) (a1 ∷ c.mul-a3_w.ensures j ∷ []))) i,
         (
-          (c.dot-product-3-2.ensures
-              ∙ (λ j. dot o (a1 ∷ c.mul-a3-w.ensures j ∷ c.add-two-a0.ensures j ∷ []) (a1 ∷ a3 ∷ a2 ∷ []))) i,
-          ((c.dot-product-2-2.ensures ∙ (λ j. dot o (c.add-two-a0.ensures j ∷ c.add-two-a2.ensures j ∷ []) (a3 ∷ a1 ∷ []))) i, tt),
+          (c.dot_product_3-2.ensures
+              ∙ (λ j. dot o (a1 ∷ c.mul-a3_w.ensures j ∷ c.add-two_a0.ensures j ∷ []) (a1 ∷ a3 ∷ a2 ∷ []))) i,
+          ((c.dot_product_2-2.ensures ∙ (λ j. dot o (c.add-two_a0.ensures j ∷ c.add-two_a2.ensures j ∷ []) (a3 ∷ a1 ∷ []))) i, tt),
         ),
       ),
     ))

@@ -22,15 +22,15 @@ returns g c =
     let b4 = m c.args.b.now.c4 in
     let w = m c.args.w.now in
     (λ i. (
-      (c.dot-product-2.ensures ∙ ap (λ t. dot o (a0 ∷ t ∷ []) (b0 ∷ w ∷ [])) c.dot-product-4-w-coeff-0.ensures) i,
+      (c.dot_product_2.ensures ∙ ap (λ t. dot o (a0 ∷ t ∷ []) (b0 ∷ w ∷ [])) c.dot_product_4-w_coeff_0.ensures) i,
       (
-        (c.dot-product-3.ensures ∙ ap (λ t. dot o (a0 ∷ a1 ∷ t ∷ []) (b1 ∷ b0 ∷ w ∷ [])) c.dot-product-3-w-coeff-1.ensures) i,
+        (c.dot_product_3.ensures ∙ ap (λ t. dot o (a0 ∷ a1 ∷ t ∷ []) (b1 ∷ b0 ∷ w ∷ [])) c.dot_product_3-w_coeff_1.ensures) i,
         (
-          (c.dot-product-4.ensures ∙ ap (λ t. dot o (a0 ∷ a1 ∷ a2 ∷ t ∷ []) (b2 ∷ b1 ∷ b0 ∷ w ∷ [])) c.dot-product-2-w-coeff-2.ensures) i,
+          (c.dot_product_4.ensures ∙ ap (λ t. dot o (a0 ∷ a1 ∷ a2 ∷ t ∷ []) (b2 ∷ b1 ∷ b0 ∷ w ∷ [])) c.dot_product_2-w_coeff_2.ensures) i,
           (
-            (c.dot-product-5.ensures ∙ ap (λ t. dot o (a0 ∷ a1 ∷ a2 ∷ a3 ∷ a4 ∷ []) (b3 ∷ b2 ∷ b1 ∷ b0 ∷ t ∷ [])) c.mul-b4-w.ensures) i,
+            (c.dot_product_5.ensures ∙ ap (λ t. dot o (a0 ∷ a1 ∷ a2 ∷ a3 ∷ a4 ∷ []) (b3 ∷ b2 ∷ b1 ∷ b0 ∷ t ∷ [])) c.mul-b4_w.ensures) i,
             (
-              c.dot-product-5-2.ensures i,
+              c.dot_product_5-2.ensures i,
               tt,
             ),
           ),

@@ -22,8 +22,8 @@ returns g c =
     let b3 = m c.args.b.now.c3 in
     let b4 = m c.args.b.now.c4 in
     let w = m c.args.w.now in
-    c.dot-product-2.ensures
-    ∙ ap (λ t. dot o (a0 ∷ w ∷ []) (b0 ∷ t ∷ [])) c.dot-product-4-w-coeff.ensures
+    c.dot_product_2.ensures
+    ∙ ap (λ t. dot o (a0 ∷ w ∷ []) (b0 ∷ t ∷ [])) c.dot_product_4-w_coeff.ensures
     ∙ solve o g.met.S.System.lawful.ring (among o (a0 ∷ a1 ∷ a2 ∷ a3 ∷ a4 ∷ b0 ∷ b1 ∷ b2 ∷ b3 ∷ b4 ∷ w ∷ []))
     (dot exprs (var 0 ∷ var 10 ∷ []) (var 5 ∷ (dot exprs (var 1 ∷ var 2 ∷ var 3 ∷ var 4 ∷ []) (var 9 ∷ var 8 ∷ var 7 ∷ var 6 ∷ [])) ∷ []))
     (binomial 5 exprs (var 10) (vars 5 0) (vars 5 5)).0 tt

@@ -16,11 +16,11 @@ returns g c =
     let a3 = m c.args.a.now.c3 in
     let a4 = m c.args.a.now.c4 in
     let w = m c.args.w.now in
-    let p0 : m c.dot-product-3.result ≡ dot o (a0 ∷ (o.mul a4 w) ∷ (o.mul a3 w) ∷ []) (a0 ∷ (o.add a1 a1) ∷ (o.add a2 a2) ∷ []) = cc in
-    let p1 : m c.dot-product-3-2.result ≡ dot o ((o.mul a3 w) ∷ (o.add a0 a0) ∷ (o.mul a4 w) ∷ []) (a3 ∷ a1 ∷ (o.add a2 a2) ∷ []) = cc in
-    let p2 : m c.dot-product-3-3.result ≡ dot o (a1 ∷ (o.add a0 a0) ∷ (o.mul a4 w) ∷ []) (a1 ∷ a2 ∷ (o.add a3 a3) ∷ []) = cc in
-    let p3 : m c.dot-product-3-4.result ≡ dot o ((o.mul a4 w) ∷ (o.add a0 a0) ∷ (o.add a1 a1) ∷ []) (a4 ∷ a3 ∷ a2 ∷ []) = cc in
-    let p4 : m c.dot-product-3-5.result ≡ dot o (a2 ∷ (o.add a0 a0) ∷ (o.add a1 a1) ∷ []) (a2 ∷ a4 ∷ a3 ∷ []) = cc in
+    let p0 : m c.dot_product_3.result ≡ dot o (a0 ∷ (o.mul a4 w) ∷ (o.mul a3 w) ∷ []) (a0 ∷ (o.add a1 a1) ∷ (o.add a2 a2) ∷ []) = cc in
+    let p1 : m c.dot_product_3-2.result ≡ dot o ((o.mul a3 w) ∷ (o.add a0 a0) ∷ (o.mul a4 w) ∷ []) (a3 ∷ a1 ∷ (o.add a2 a2) ∷ []) = cc in
+    let p2 : m c.dot_product_3-3.result ≡ dot o (a1 ∷ (o.add a0 a0) ∷ (o.mul a4 w) ∷ []) (a1 ∷ a2 ∷ (o.add a3 a3) ∷ []) = cc in
+    let p3 : m c.dot_product_3-4.result ≡ dot o ((o.mul a4 w) ∷ (o.add a0 a0) ∷ (o.add a1 a1) ∷ []) (a4 ∷ a3 ∷ a2 ∷ []) = cc in
+    let p4 : m c.dot_product_3-5.result ≡ dot o (a2 ∷ (o.add a0 a0) ∷ (o.add a1 a1) ∷ []) (a2 ∷ a4 ∷ a3 ∷ []) = cc in
     (λ i. (
       p0 i,
       (

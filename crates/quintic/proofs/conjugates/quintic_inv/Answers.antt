@@ -22,10 +22,10 @@ returns-in-Some g c law =
     let φ = root_frobenius_map 5 o z in
     let E : Laws (extend 4 o (binomial 5 o w)) = binomial_laws 4 quintic_passes o L w in
     let C : Conjugation 4 o (binomial 5 o w) φ = root_conjugation o L z 4 law w in
-    let conj = c.other-conjugates-prod-conj.ensures law ∙ conjugates_four (extend 4 o (binomial 5 o w)) E φ (C.below o.one) C.products a in
-    ap (binomial 5 o w a) (c.quintic-scale.ensures ∙ ap (scaled 5 o n) conj)
+    let conj = c.other_conjugates-prod_conj.ensures law ∙ conjugates_four (extend 4 o (binomial 5 o w)) E φ (C.below o.one) C.products a in
+    ap (binomial 5 o w a) (c.quintic_scale.ensures ∙ ap (scaled 5 o n) conj)
     ∙ inverse_by_conjugates 4 o L (binomial 5 o w) E (binomial_scales 4 quintic_passes o L w) φ C a n
-    (ap (λ t. o.mul t n) (sym (c.quintic-mul-low-norm.ensures ∙ ap (λ t. (binomial 5 o w a t).0) conj)) ∙ c.in-Some.ensures)
+    (ap (λ t. o.mul t n) (sym (c.quintic_mul_low-norm.ensures ∙ ap (λ t. (binomial 5 o w a t).0) conj)) ∙ c.in-Some.ensures)
 
 pub returns-in-None : goal.returns-in-None
 returns-in-None g c law b e =
@@ -38,7 +38,7 @@ returns-in-None g c law b e =
     let φ = root_frobenius_map 5 o z in
     let E : Laws (extend 4 o (binomial 5 o w)) = binomial_laws 4 quintic_passes o L w in
     let C : Conjugation 4 o (binomial 5 o w) φ = root_conjugation o L z 4 law w in
-    let conj = c.other-conjugates-prod-conj.ensures law ∙ conjugates_four (extend 4 o (binomial 5 o w)) E φ (C.below o.one) C.products a in
+    let conj = c.other_conjugates-prod_conj.ensures law ∙ conjugates_four (extend 4 o (binomial 5 o w)) E φ (C.below o.one) C.products a in
     let inverse = conjugates_inverse 4 o L (binomial 5 o w) E (binomial_scales 4 quintic_passes o L w) φ C a b e in
     let n = (whole 4 o L (binomial 5 o w) E (binomial_scales 4 quintic_passes o L w) φ C b).0 in
-    c.in-None.ensures n (ap (λ t. o.mul t n) (c.quintic-mul-low-norm.ensures ∙ ap (λ t. (binomial 5 o w a t).0) conj) ∙ inverse)
+    c.in-None.ensures n (ap (λ t. o.mul t n) (c.quintic_mul_low-norm.ensures ∙ ap (λ t. (binomial 5 o w a t).0) conj) ∙ inverse)

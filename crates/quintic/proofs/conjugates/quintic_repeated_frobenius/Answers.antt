@@ -11,6 +11,6 @@ returns g c law =
     let L = g.met.S.System.lawful.ring in
     let z = m c.args.z.now in
     let a = quintuple m c.args.a.now in
-    c.quintic-frobenius.ensures.image
-    ∙ ap (λ t. root_frobenius_map 5 o t a) (c.exp-u64-z0.ensures ∙ root_modulo o L z 5 c.args.count law)
+    c.quintic_frobenius.ensures.image
+    ∙ ap (λ t. root_frobenius_map 5 o t a) (c.exp_u64-z0.ensures ∙ root_modulo o L z 5 c.args.count law)
     ∙ root_repeated o L z 5 c.args.count a

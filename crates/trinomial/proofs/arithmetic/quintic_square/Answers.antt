@@ -23,11 +23,11 @@ returns g c =
     let a4 = m c.args.a.now.c4 in
     let p0 : m c.square-c0.result ≡ o.mul a0 a0 = cc in
     let p1 : m c.mul-c1.result ≡ o.mul (o.add a0 a0) a1 = cc in
-    let p2 : m c.dot-product-2-c2.result ≡ dot o ((o.add a0 a0) ∷ a1 ∷ []) (a2 ∷ a1 ∷ []) = cc in
-    let p3 : m c.dot-product-2-c3.result ≡ dot o ((o.add a0 a0) ∷ (o.add a1 a1) ∷ []) (a3 ∷ a2 ∷ []) = cc in
-    let p4 : m c.dot-product-3-c4.result ≡ dot o ((o.add a0 a0) ∷ (o.add a1 a1) ∷ a2 ∷ []) (a4 ∷ a3 ∷ a2 ∷ []) = cc in
-    let p5 : m c.dot-product-2-c5.result ≡ dot o ((o.add a1 a1) ∷ (o.add a2 a2) ∷ []) (a4 ∷ a3 ∷ []) = cc in
-    let p6 : m c.dot-product-2-c6.result ≡ dot o ((o.add a2 a2) ∷ a3 ∷ []) (a4 ∷ a3 ∷ []) = cc in
+    let p2 : m c.dot_product_2-c2.result ≡ dot o ((o.add a0 a0) ∷ a1 ∷ []) (a2 ∷ a1 ∷ []) = cc in
+    let p3 : m c.dot_product_2-c3.result ≡ dot o ((o.add a0 a0) ∷ (o.add a1 a1) ∷ []) (a3 ∷ a2 ∷ []) = cc in
+    let p4 : m c.dot_product_3-c4.result ≡ dot o ((o.add a0 a0) ∷ (o.add a1 a1) ∷ a2 ∷ []) (a4 ∷ a3 ∷ a2 ∷ []) = cc in
+    let p5 : m c.dot_product_2-c5.result ≡ dot o ((o.add a1 a1) ∷ (o.add a2 a2) ∷ []) (a4 ∷ a3 ∷ []) = cc in
+    let p6 : m c.dot_product_2-c6.result ≡ dot o ((o.add a2 a2) ∷ a3 ∷ []) (a4 ∷ a3 ∷ []) = cc in
     let p7 : m c.mul-c7.result ≡ o.mul (o.add a3 a3) a4 = cc in
     let p8 : m c.square-c8.result ≡ o.mul a4 a4 = cc in
     c.reduce.ensures

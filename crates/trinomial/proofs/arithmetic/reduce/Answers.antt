@@ -25,7 +25,7 @@ returns g c =
     let c6 = m c.args.c6 in
     let c7 = m c.args.c7 in
     let c8 = m c.args.c8 in
-    let d : m c.sub-c5-minus-c8.result ≡ o.add c5 (o.neg c8) = c.sub-c5-minus-c8.ensures in
+    let d : m c.sub-c5_minus_c8.result ≡ o.add c5 (o.neg c8) = c.sub-c5_minus_c8.ensures in
     (λ i. (
       (c.add.ensures ∙ ap (o.add c0) d) i,
       (

@@ -27,7 +27,7 @@ returns g c =
     let b3 = m c.args.b.now.c3 in
     let b4 = m c.args.b.now.c4 in
     c.add.ensures
-    ∙ ap₂ o.add c.mul.ensures (c.sub.ensures ∙ ap₂ (λ s t. o.add s (o.neg t)) c.dot-product-4-c5.ensures c.mul-2.ensures)
+    ∙ ap₂ o.add c.mul.ensures (c.sub.ensures ∙ ap₂ (λ s t. o.add s (o.neg t)) c.dot_product_4-c5.ensures c.mul-2.ensures)
     ∙ solve o L (among o (a0 ∷ a1 ∷ a2 ∷ a3 ∷ a4 ∷ b0 ∷ b1 ∷ b2 ∷ b3 ∷ b4 ∷ []))
     (var 0 ⊠ var 5 ⊞ (dot exprs (var 1 ∷ var 2 ∷ var 3 ∷ var 4 ∷ []) (var 9 ∷ var 8 ∷ var 7 ∷ var 6 ∷ []) ⊞ ⊟ (var 4 ⊠ var 9)))
     (trinomial exprs (vars 5 0) (vars 5 5)).0 tt

@@ -27,7 +27,7 @@ returns g c =
     let b3 = m c.args.b.now.c3 in
     let b4 = m c.args.b.now.c4 in
     c.reduce.ensures
-    ∙ (λ i. reduced o (c.mul-c0.ensures i) (c.dot-product-2-c1.ensures i) (c.dot-product-3-c2.ensures i) (c.dot-product-4-c3.ensures i) (c.dot-product-5-c4.ensures i) (c.dot-product-4-c5.ensures i) (c.dot-product-3-c6.ensures i) (c.dot-product-2-c7.ensures i) (c.mul-c8.ensures i))
+    ∙ (λ i. reduced o (c.mul-c0.ensures i) (c.dot_product_2-c1.ensures i) (c.dot_product_3-c2.ensures i) (c.dot_product_4-c3.ensures i) (c.dot_product_5-c4.ensures i) (c.dot_product_4-c5.ensures i) (c.dot_product_3-c6.ensures i) (c.dot_product_2-c7.ensures i) (c.mul-c8.ensures i))
     ∙ solves o L (among o (a0 ∷ a1 ∷ a2 ∷ a3 ∷ a4 ∷ b0 ∷ b1 ∷ b2 ∷ b3 ∷ b4 ∷ [])) 5 (reduced exprs
     (var 0 ⊠ var 5)
     (dot exprs (var 0 ∷ var 1 ∷ []) (var 6 ∷ var 5 ∷ []))

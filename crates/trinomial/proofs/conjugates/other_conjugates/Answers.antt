@@ -11,6 +11,6 @@ returns g c =
     let o = g.S.System.sys.ops in
     let φ = table_frobenius o (rows m c.args.t.now) in
     let a = quintuple m c.args.a.now in
-    let t = c.trinomial-frobenius-a-exp-p-plus-p2.ensures.image ∙ ap φ (c.trinomial-quintic-mul.ensures ∙ ap (trinomial o a) c.trinomial-frobenius-a-exp-p.ensures.image) in
-    c.trinomial-quintic-mul-2.ensures
-    ∙ ap₂ (trinomial o) t (c.trinomial-frobenius.ensures.image ∙ ap φ (c.trinomial-frobenius-once.ensures.image ∙ ap φ t))
+    let t = c.trinomial_frobenius-a_exp_p_plus_p2.ensures.image ∙ ap φ (c.trinomial_quintic_mul.ensures ∙ ap (trinomial o a) c.trinomial_frobenius-a_exp_p.ensures.image) in
+    c.trinomial_quintic_mul-2.ensures
+    ∙ ap₂ (trinomial o) t (c.trinomial_frobenius.ensures.image ∙ ap φ (c.trinomial_frobenius-once.ensures.image ∙ ap φ t))

@@ -44,8 +44,8 @@ returns g c =
     record {
       image =
           (λ i. (
-            (c.add.ensures ∙ ap (o.add a0) c.dot-product-4-tail.ensures) i,
-            (c.dot-product-4.ensures i, (c.dot-product-4-2.ensures i, (c.dot-product-4-3.ensures i, (c.dot-product-4-4.ensures i, tt)))),
+            (c.add.ensures ∙ ap (o.add a0) c.dot_product_4-tail.ensures) i,
+            (c.dot_product_4.ensures i, (c.dot_product_4-2.ensures i, (c.dot_product_4-3.ensures i, (c.dot_product_4-4.ensures i, tt)))),
           ))
           ∙ solves o L (among o (t10 ∷ t11 ∷ t12 ∷ t13 ∷ t14 ∷ t20 ∷ t21 ∷ t22 ∷ t23 ∷ t24 ∷ t30 ∷ t31 ∷ t32 ∷ t33 ∷ t34 ∷ t40 ∷ t41 ∷ t42 ∷ t43 ∷ t44 ∷ a0 ∷ a1 ∷ a2 ∷ a3 ∷ a4 ∷ [])) 5 (
             var 20 ⊞ dot exprs (var 21 ∷ var 22 ∷ var 23 ∷ var 24 ∷ []) (var 0 ∷ var 5 ∷ var 10 ∷ var 15 ∷ []),

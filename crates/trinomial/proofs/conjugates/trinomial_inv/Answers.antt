@@ -20,11 +20,11 @@ returns-in-Some g c law =
     let φ = table_frobenius o (rows m c.args.t.now) in
     let E : Laws (extend 4 o (trinomial o)) = trinomial_laws o L in
     let C : Conjugation 4 o (trinomial o) φ = table_conjugation o L (rows m c.args.t.now) law.powers law in
-    let conj = c.other-conjugates-prod-conj.ensures ∙ conjugates_four (extend 4 o (trinomial o)) E φ (C.below o.one) C.products a in
+    let conj = c.other_conjugates-prod_conj.ensures ∙ conjugates_four (extend 4 o (trinomial o)) E φ (C.below o.one) C.products a in
     let n = m c.in-Some.scalar in
-    ap (trinomial o a) (c.quintic-scale.ensures ∙ ap (scaled 5 o n) conj)
+    ap (trinomial o a) (c.quintic_scale.ensures ∙ ap (scaled 5 o n) conj)
     ∙ inverse_by_conjugates 4 o L (trinomial o) E (trinomial_scales o L) φ C a n
-    (ap (λ t. o.mul t n) (sym (c.trinomial-mul-low-norm.ensures ∙ ap (λ t. (trinomial o a t).0) conj)) ∙ c.in-Some.ensures)
+    (ap (λ t. o.mul t n) (sym (c.trinomial_mul_low-norm.ensures ∙ ap (λ t. (trinomial o a t).0) conj)) ∙ c.in-Some.ensures)
 
 pub returns-in-None : goal.returns-in-None
 returns-in-None g c law b e =
@@ -35,7 +35,7 @@ returns-in-None g c law b e =
     let φ = table_frobenius o (rows m c.args.t.now) in
     let E : Laws (extend 4 o (trinomial o)) = trinomial_laws o L in
     let C : Conjugation 4 o (trinomial o) φ = table_conjugation o L (rows m c.args.t.now) law.powers law in
-    let conj = c.other-conjugates-prod-conj.ensures ∙ conjugates_four (extend 4 o (trinomial o)) E φ (C.below o.one) C.products a in
+    let conj = c.other_conjugates-prod_conj.ensures ∙ conjugates_four (extend 4 o (trinomial o)) E φ (C.below o.one) C.products a in
     let n = (whole 4 o L (trinomial o) E (trinomial_scales o L) φ C b).0 in
     let inverse = conjugates_inverse 4 o L (trinomial o) E (trinomial_scales o L) φ C a b e in
-    c.in-None.ensures n (ap (λ t. o.mul t n) (c.trinomial-mul-low-norm.ensures ∙ ap (λ t. (trinomial o a t).0) conj) ∙ inverse)
+    c.in-None.ensures n (ap (λ t. o.mul t n) (c.trinomial_mul_low-norm.ensures ∙ ap (λ t. (trinomial o a t).0) conj) ∙ inverse)

@@ -12,13 +12,13 @@ pub loop-k-preserved : goal.loop-k-preserved
 loop-k-preserved g c =
     let s = g.S.System in
     let φ = table_frobenius s.sys.ops (rows s.mean c.args.t.now) in
-    c.trinomial-frobenius-image.ensures.image ∙ ap φ c.loop-k.invariant
-    ∙ ap (λ n. repeated φ n (quintuple s.mean c.args.a.now)) (sym (add-one c.loop-k.-k))
+    c.trinomial_frobenius-image.ensures.image ∙ ap φ c.loop-k.invariant
+    ∙ ap (λ n. repeated φ n (quintuple s.mean c.args.a.now)) (sym (add-one c.loop-k._k))
 
 pub returns : goal.returns
 returns g c law =
     let s = g.S.System in
     let φ = table_frobenius s.sys.ops (rows s.mean c.args.t.now) in
     let a = quintuple s.mean c.args.a.now in
-    let ended : c.loop-k.-k ≡ c.args.count % 5 = omega arith in
+    let ended : c.loop-k._k ≡ c.args.count % 5 = omega arith in
     c.loop-k.invariant ∙ ap (λ n. repeated φ n a) ended ∙ repeated_modulo φ 5 law.period c.args.count a

@@ -9,7 +9,7 @@ returns g c =
     let s = g.S.System in
     let o = s.sys.ops in
     record {
-      image = c.root_frobenius_map.ensures ∙ ap (λ y. root_frobenius_map 8 o (s.mean y) (octuple s.mean c.args.self.now.value)) c.z.ensures.value;
+      image = c.root_frobenius.ensures ∙ ap (λ y. root_frobenius_map 8 o (s.mean y) (octuple s.mean c.args.self.now.value)) c.z.ensures.value;
       conjugation = root_conjugation o g.met.S.System.lawful.ring (s.mean g.C.OcticConjugates.z) 7
           (subst (λ y. RootLaw o 8 (s.mean y)) c.z.ensures.value c.z.ensures.root) (s.mean g.C.OcticConstants.w);
     }

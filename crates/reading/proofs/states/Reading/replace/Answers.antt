@@ -19,8 +19,8 @@ returns-then-beyond g c =
       answer = λ sound. record { refused = replace_beyond g.S.System.sys L c.args.place c.args.e c.in-ok-value.ensures.0 beyond; unchanged = refl };
     }
 
-pub returns-in-err-old-value : goal.returns-in-err-old-value
-returns-in-err-old-value g c =
+pub returns-in-err-old_value : goal.returns-in-err-old_value
+returns-in-err-old_value g c =
     let s = c.args.self.now in
     let i = c.args.place in
     let L = window s.table s.start s.count in
@@ -33,7 +33,7 @@ returns-in-err-old-value g c =
       point = record { element = refl; inverse = refl };
       answer = λ sound.
           let below = below_at g.S.System.sys.limit L i sound.below within in
-          let never : ⊥ = omega (arith, old, below, c.in-err-old-value.ensures.0) in
+          let never : ⊥ = omega (arith, old, below, c.in-err-old_value.ensures.0) in
           absurd never;
     }
 
@@ -54,10 +54,10 @@ returns g c =
     let within : i < length L = omega arith in
     let old = window_at s.table s.start s.count i here in
     let v = c.in-ok-value.ensures in
-    let w = c.in-ok-old-value.ensures in
+    let w = c.in-ok-old_value.ensures in
     let list = window_set s.table s.start s.count i e len s.fits here in
     let change = c.sub.ensures ∙ ap₂ (sub o) v.1 (w.1 ∙ ap (multiple o) (sym old)) in
-    let term = c.mul.ensures ∙ ap₂ o.mul change c.exp-u64-power.ensures in
+    let term = c.mul.ensures ∙ ap₂ o.mul change c.exp_u64-power.ensures in
     record {
       sound = λ sound. record {
         inverts = sound.inverts;

@@ -11,6 +11,6 @@ returns g c =
     let o = s.sys.ops in
     let law : TableLaw o (rows s.mean g.C.TrinomialConstants.table) = subst (λ t. TableLaw o (rows s.mean t)) c.table.ensures.value c.table.ensures.table in
     record {
-      image = c.trinomial-frobenius.ensures.image ∙ ap (λ t. table_frobenius o (rows s.mean t) (quintuple s.mean c.args.self.now.value)) c.table.ensures.value;
+      image = c.trinomial_frobenius.ensures.image ∙ ap (λ t. table_frobenius o (rows s.mean t) (quintuple s.mean c.args.self.now.value)) c.table.ensures.value;
       conjugation = table_conjugation o g.met.S.System.lawful.ring (rows s.mean g.C.TrinomialConstants.table) law.powers law;
     }
