@@ -4,9 +4,11 @@ ghost use Rattle.bases.specs.Bits.{bits};
 ghost use Rattle.bases.specs.BitsLemmas.{bits_lawful};
 
 use numbers::listed::Listed;
-use numbers::prefix_listed::PrefixListed;
 use numbers::refusal::Refusal;
 use numbers::system::System;
+
+// how far lists are shown
+mod prefix_list;
 
 // An element of the field of two elements: one where it is on, else zero.
 #[derive(Clone, Copy)]
@@ -114,23 +116,6 @@ impl Listed for Bit {
     }
 
     fn number_at(&self, place: usize) -> u64 {
-        if place == 0 && self.on { 1 } else { 0 }
-    }
-}
-
-impl PrefixListed for Bit {
-    fn size() -> usize {
-        1
-    }
-
-    fn from_list(numbers: &[u64]) -> Result<Bit, Refusal> {
-        match numbers {
-            [n] => Self::entry(*n),
-            _ => Err(Refusal::CutList),
-        }
-    }
-
-    fn number_at(&self, place: usize) -> u32 {
         if place == 0 && self.on { 1 } else { 0 }
     }
 }

@@ -1,14 +1,17 @@
 // Residues modulo m.
-ghost use Rattle.std.specs.Prelude.{◌≡◌, ◌%◌, ◌^◌, ◌<◌, ◌≤◌, Some, None};
+ghost use Rattle.std.specs.Prelude.{◌≡◌, ◌%◌, ◌^◌, ◌<◌, ◌≤◌, Some, None, ⊤};
 ghost use Rattle.bases.specs.Residues.{residues, res};
 ghost use Rattle.bases.specs.ResiduesLemmas.{residues_lawful};
 
 use crate::euclid::inverse_modulo;
 use crate::modulus::Modulus;
 use numbers::listed::Listed;
-use numbers::prefix_listed::PrefixListed;
 use numbers::refusal::Refusal;
 use numbers::system::System;
+use std::alloc::AllocError;
+
+// how far lists are shown
+mod prefix_list;
 
 // A residue modulo the m of `M`. It holds any number below 2^31, which means its remainder, so a residue may be held in several ways.
 pub struct Residue<M> {
@@ -16,6 +19,14 @@ pub struct Residue<M> {
     // says which modulus; it takes no room
     mark: M,
     ghost small: { value < 2 ^ 31 },
+}
+
+impl<M: Copy> Clone for Residue<M> {
+    ghost is_infallible = { λ _. ⊤ };
+
+    fn clone(&self) -> Result<Residue<M>, AllocError> {
+        Ok(*self)
+    }
 }
 
 impl<M: Copy> Copy for Residue<M> {}
@@ -166,27 +177,6 @@ impl<M: Modulus> Listed for Residue<M> {
     fn number_at(&self, place: usize) -> u64 {
         if place == 0 {
             (self.value % M::modulus()) as u64
-        } else {
-            0
-        }
-    }
-}
-
-impl<M: Modulus> PrefixListed for Residue<M> {
-    fn size() -> usize {
-        1
-    }
-
-    fn from_list(numbers: &[u64]) -> Result<Residue<M>, Refusal> {
-        match numbers {
-            [n] => Self::entry(*n),
-            _ => Err(Refusal::CutList),
-        }
-    }
-
-    fn number_at(&self, place: usize) -> u32 {
-        if place == 0 {
-            self.value % M::modulus()
         } else {
             0
         }

@@ -3,8 +3,6 @@
 ghost use Rattle.std.specs.Prelude.{◌<◌, ◌≤◌};
 ghost use Rattle.reading.specs.Sheet.{most};
 
-use numbers::system::System;
-
 pub mod figures;
 pub mod points;
 pub mod steps;
@@ -14,7 +12,7 @@ pub const MOST: usize = 512;
 
 // An element with its inverse.
 #[derive(Drop)]
-pub struct Point<S: System> {
+pub struct Point<S> {
     element: S,
     inverse: S,
 }
@@ -22,7 +20,7 @@ pub struct Point<S: System> {
 // An open reading. The entries of its sheet stand in the table from `start` on, going round at the end of the table; `power` is the element to the power
 // of the count, by which the next entry is multiplied.
 #[derive(Drop)]
-pub struct Reading<S: System> {
+pub struct Reading<S> {
     element: S,
     inverse: S,
     table: [u64; MOST],
@@ -36,7 +34,7 @@ pub struct Reading<S: System> {
 
 // What is left of a reading: the element, the count of its entries, and their sum there.
 #[derive(Drop)]
-pub struct Figure<S: System> {
+pub struct Figure<S> {
     element: S,
     count: usize,
     sum: S,

@@ -6,7 +6,7 @@ pub loop-i-preserved : goal.loop-i-preserved
 loop-i-preserved g c =
     let list = g.S.System.sys.list (g.S.System.mean c.args.x.now) in
     let here : c.loop-i.i < length list = omega (arith, c.size-i-end.ensures, g.met.S.System.lawful.list_size (g.S.System.mean c.args.x.now)) in
-    c.in-ok-push.ensures.items
+    c.in_ok-push.ensures.items
     ∙ ap₂ (λ (xs : List ℕ) (n : ℕ). xs ++ (n ∷ [])) c.loop-i.invariant c.number_at.ensures ∙ sym (take_more list c.loop-i.i 0 here)
 
 pub returns : goal.returns

@@ -2,8 +2,8 @@ use Rattle.std.proofs.Common.{◌≡◌, [], ◌∷◌, ◌++◌, Some, None, sy
 use Rattle.std.proofs.lemmas.Str.Pattern.{strip_prefix_char, strip_suffix_char}
 use Rattle.calculator.proofs.text.inside.Goals as goal
 
-pub returns-in-default : goal.returns-in-default
-returns-in-default c inner e = strip_prefix_char 91 c.args.text.now None c.in-default.ensures.cases (lit< tt) (inner ++ (93 ∷ [])) e
+pub returns-in_default : goal.returns-in_default
+returns-in_default c inner e = strip_prefix_char 91 c.args.text.now None c.in_default.ensures.cases (lit< tt) (inner ++ (93 ∷ [])) e
 
 pub returns-in-Some-strip_suffix : goal.returns-in-Some-strip_suffix
 returns-in-Some-strip_suffix c =

@@ -10,6 +10,6 @@ returns c =
     let texts = map (λ x. x.now) c.as_slice.result.now in
     let e : items inner ≡ texts =
     items_some inner (search rules)
-    ∙ sym c.in-ok-texts.ensures ∙ ap (map (λ x. x.now)) (sym c.as_slice.ensures.value) in
-    found_same vec_items (Numbers texts) (Listing text) c.in-ok-found.found
-    (listing_items text inner texts c.in-Some.ensures e) (items_listing text inner texts c.in-Some.ensures e) c.in-ok-found.ensures
+    ∙ sym c.in_ok-texts.ensures ∙ ap (map (λ x. x.now)) (sym c.as_slice.ensures.value) in
+    found_same vec_items (Numbers texts) (Listing text) c.in_ok-found.found
+    (listing_items text inner texts c.in-Some.ensures e) (items_listing text inner texts c.in-Some.ensures e) c.in_ok-found.ensures

@@ -5,13 +5,13 @@ use Rattle.octic.specs.Octuples.{octuple, octic_norm_of}
 use Rattle.octic.proofs.Tower.{octic_inverse, octic_norm_inverse}
 use Rattle.octic.proofs.arithmetic.octic_inv.Goals as goal
 
-pub returns-in-default : goal.returns-in-default
-returns-in-default g c b e =
+pub returns-in_default : goal.returns-in_default
+returns-in_default g c b e =
     let s = g.S.System in
     let o = g.S.System.sys.ops in
     let w = s.mean c.args.w.now in
     let a = octuple s.mean c.args.a.now in
-    c.in-default.ensures (octic_norm_of o w b)
+    c.in_default.ensures (octic_norm_of o w b)
     (ap (λ n. binomial 4 o w n (octic_norm_of o w b)) c.octic_norm.ensures ∙ octic_norm_inverse o g.met.S.System.lawful.ring w a b e)
 
 pub returns : goal.returns

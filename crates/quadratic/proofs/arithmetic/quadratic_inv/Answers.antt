@@ -4,13 +4,13 @@ use Rattle.quadratic.specs.Pairs.{pair, norm}
 use Rattle.quadratic.proofs.Norm.{inverse_is_by_norm, norm_inverse}
 use Rattle.quadratic.proofs.arithmetic.quadratic_inv.Goals as goal
 
-pub returns-in-default : goal.returns-in-default
-returns-in-default g c b e =
+pub returns-in_default : goal.returns-in_default
+returns-in_default g c b e =
     let s = g.S.System in
     let o = g.S.System.sys.ops in
     let w = s.mean c.args.w.now in
     let a = pair s.mean c.args.a.now in
-    c.in-default.ensures (norm o w b)
+    c.in_default.ensures (norm o w b)
     (ap (λ n. o.mul n (norm o w b)) c.quadratic_norm.ensures ∙ norm_inverse o g.met.S.System.lawful.ring w a b e)
 
 pub returns : goal.returns

@@ -5,13 +5,13 @@ use Rattle.quartic.specs.Quadruples.{quadruple, quartic_norm_of}
 use Rattle.quartic.proofs.Tower.{quartic_inverse, quartic_norm_inverse}
 use Rattle.quartic.proofs.arithmetic.quartic_inv.Goals as goal
 
-pub returns-in-default : goal.returns-in-default
-returns-in-default g c b e =
+pub returns-in_default : goal.returns-in_default
+returns-in_default g c b e =
     let s = g.S.System in
     let o = g.S.System.sys.ops in
     let w = s.mean c.args.w.now in
     let a = quadruple s.mean c.args.a.now in
-    c.in-default.ensures (quartic_norm_of o w b)
+    c.in_default.ensures (quartic_norm_of o w b)
     (ap (λ n. binomial 2 o w n (quartic_norm_of o w b)) c.quartic_norm.ensures ∙ quartic_norm_inverse o g.met.S.System.lawful.ring w a b e)
 
 pub returns : goal.returns

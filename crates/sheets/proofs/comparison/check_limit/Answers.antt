@@ -7,12 +7,12 @@ use Rattle.sheets.proofs.comparison.check_limit.Goals as goal
 
 pub loop-i-preserved : goal.loop-i-preserved
 loop-i-preserved g c =
-    each_more (λ e. e < g.S.System.sys.limit) c.args.entries.now c.loop-i.i 0 c.loop-i-test.true c.loop-i.invariant c.in-ok-entry.ensures.0
+    each_more (λ e. e < g.S.System.sys.limit) c.args.entries.now c.loop-i.i 0 c.loop-i-test.true c.loop-i.invariant c.in_ok-entry.ensures.0
 
-pub returns-in-err-entry : goal.returns-in-err-entry
-returns-in-err-entry g c =
-    let p = err_from_is_err_and c.from-residual.result c.from-residual.ensures.1 in
-    let over = c.in-err-entry.ensures in
+pub returns-in_err-entry : goal.returns-in_err-entry
+returns-in_err-entry g c =
+    let p = err_from_is_err_and c.from_residual.result c.from_residual.ensures.1 in
+    let over = c.in_err-entry.ensures in
     rw (p.1, p.2) (
       over.1,
       λ below.

@@ -10,18 +10,18 @@ use Rattle.sheets.proofs.Sheets.{sheets_same, same_sheet}
 use Rattle.sheets.proofs.comparison.compare.Goals as goal
 use Rattle.sheets.proofs.comparison.compare.Goals.{then-not-alike, else-not-alike}
 
-pub returns-in-err-left_figure : goal.returns-in-err-left_figure
-returns-in-err-left_figure g c =
+pub returns-in_err-left_figure : goal.returns-in_err-left_figure
+returns-in_err-left_figure g c =
     let s = g.S.System.sys in
-    let p = err_from_is_err_and c.from-residual-in-err-left_figure.result c.from-residual-in-err-left_figure.ensures.1 in
-    let none = c.in-err-left_figure.ensures in
+    let p = err_from_is_err_and c.from_residual-in_err-left_figure.result c.from_residual-in_err-left_figure.ensures.1 in
+    let none = c.in_err-left_figure.ensures in
     let fits-left : length c.args.left.now ≤ most = search rules in
     let fits-right : length c.args.right.now ≤ most = search rules in
     let units : Each (IsUnit s.ops) (map g.S.System.mean c.args.points.now) → ⊥ = λ each.
     let unit = each_at_map (IsUnit s.ops) g.S.System.mean c.args.points.now c.loop-i.i c.index-points-i.result c.loop-i-test.true c.index-points-i.is each in
     none.1 unit.0 unit.1 in
     record {
-      refused = rw (p.1, p.2, none.0) ((c.in-ok-check_limit.ensures, c.in-ok-check_limit-2.ensures), (fits-left, fits-right), units);
+      refused = rw (p.1, p.2, none.0) ((c.in_ok-check_limit.ensures, c.in_ok-check_limit-2.ensures), (fits-left, fits-right), units);
       alike = rw p.1 tt;
       equal = rw p.1 tt;
       different = rw p.1 tt;
@@ -38,8 +38,8 @@ loop-i-preserved g c =
     let x = c.index-points-i.result in
     let here = c.loop-i-test.true in
     let read = c.index-points-i.is in
-    let f = c.in-ok-left_figure.ensures in
-    let h = c.in-ok-right_figure.ensures in
+    let f = c.in_ok-left_figure.ensures in
+    let h = c.in_ok-right_figure.ensures in
     let inv = c.loop-i.invariant in
     let Same : s.Elem → Type 0 = λ y. sum_of s y L ≡ sum_of s y M in
     let before = take i (map m points) in
@@ -82,8 +82,8 @@ returns g c =
     let inv = c.loop-i.invariant in
     let fits-left : length L ≤ most = search rules in
     let fits-right : length M ≤ most = search rules in
-    let Below-left = c.in-ok-check_limit.ensures in
-    let Below-right = c.in-ok-check_limit-2.ensures in
+    let Below-left = c.in_ok-check_limit.ensures in
+    let Below-right = c.in_ok-check_limit-2.ensures in
     let same : T c.loop-i.alike → SameFigures s ps L M = λ yes. subst (λ l. SameFigures s l L M) whole (inv.1 yes) in
     let alike : SameFigures s ps L M → T c.loop-i.alike = λ figures. inv.2 (subst (λ l. SameFigures s l L M) (sym whole) figures) in
     record {

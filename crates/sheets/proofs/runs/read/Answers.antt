@@ -8,19 +8,19 @@ use Rattle.sheets.proofs.runs.read.Goals as goal
 
 pub play-requires : goal.play-requires
 play-requires g c =
-    let drawn = c.in-ok-point.ensures in
+    let drawn = c.in_ok-point.ensures in
     let o = g.S.System.sys.ops in
     let m = g.S.System.mean in
-    let inverts = subst (λ y. Inverts o (m y) (m c.in-ok-point.point.inverse)) (sym drawn.0) drawn.1 in
+    let inverts = subst (λ y. Inverts o (m y) (m c.in_ok-point.point.inverse)) (sym drawn.0) drawn.1 in
     (c.begin-reading.ensures.sound inverts, omega arith)
 
 pub returns-then-cut : goal.returns-then-cut
 returns-then-cut g c = record { inverse = λ same. omega arith; runs = refl; agreement = agreement g.S.System.sys g.met.S.System.lawful }
 
-pub returns-in-err-point : goal.returns-in-err-point
-returns-in-err-point g c =
-    let p = err_from_is_err_and c.from-residual.result c.from-residual.ensures.1 in
-    let none = c.in-err-point.ensures in
+pub returns-in_err-point : goal.returns-in_err-point
+returns-in_err-point g c =
+    let p = err_from_is_err_and c.from_residual.result c.from_residual.ensures.1 in
+    let none = c.in_err-point.ensures in
     let same : length c.args.out.now ≡ length c.args.calls.now = omega arith in
     record {
       inverse = rw (p.1, p.2, none.0) (same, none.1);
@@ -35,7 +35,7 @@ returns g c =
     let m = g.S.System.mean in
     let x = c.args.x in
     let cs = c.args.calls.now in
-    let drawn = c.in-ok-point.ensures in
+    let drawn = c.in_ok-point.ensures in
     let begun = c.begin-reading.ensures in
     let same = begun.point.0 ∙ drawn.0 in
     let point = c.play.ensures.point ∙ same in

@@ -16,7 +16,7 @@ returns-then-full g c =
     record {
       sound = λ sound. sound;
       point = record { element = refl; inverse = refl };
-      answer = record { refused = append_full g.S.System.sys L c.args.e c.in-ok-value.ensures.0 full; unchanged = refl };
+      answer = record { refused = append_full g.S.System.sys L c.args.e c.in_ok-value.ensures.0 full; unchanged = refl };
     }
 
 pub returns : goal.returns
@@ -33,13 +33,13 @@ returns g c =
     let room : s.count < most = omega (arith, leb-false) in
     let sized : length L ≡ s.count = window_length s.table s.start s.count in
     let fits : length L < most = omega arith in
-    let v = c.in-ok-value.ensures in
+    let v = c.in_ok-value.ensures in
     let list = window_append s.table s.start s.count e len room in
     record {
       sound = λ sound. record {
         inverts = sound.inverts;
         summed =
-            c.add_self.ensures
+            c.add-self.ensures
             ∙ ap₂ o.add sound.summed (c.mul.ensures ∙ ap₂ o.mul v.1 (sound.raised ∙ ap (power o x) (sym sized)))
             ∙ sym (ap (sum_of sys x) list ∙ sum_append o W x L e);
         raised = c.mul-self.ensures ∙ ap (λ p. o.mul p x) sound.raised ∙ power_next o W x s.count ∙ ap (power o x) (sym (add-one s.count));

@@ -16,8 +16,8 @@ returns-then-empty g c =
     let none : length L ≤ 0 = omega (arith, eqb-true) in
     record { sound = λ sound. sound; point = record { element = refl; inverse = refl }; answer = λ sound. record { refused = drop_empty g.S.System.sys L none; unchanged = refl } }
 
-pub returns-in-err-value : goal.returns-in-err-value
-returns-in-err-value g c =
+pub returns-in_err-value : goal.returns-in_err-value
+returns-in_err-value g c =
     let sys = g.S.System.sys in
     let s = c.args.self.now in
     let some : 0 < s.count = omega (arith, eqb-false) in
@@ -27,7 +27,7 @@ returns-in-err-value g c =
       point = record { element = refl; inverse = refl };
       answer = λ sound.
           let below = subst (Below sys.limit) split sound.below in
-          let never : ⊥ = omega (arith, below.0, c.in-err-value.ensures.0) in
+          let never : ⊥ = omega (arith, below.0, c.in_err-value.ensures.0) in
           absurd never;
     }
 
@@ -47,7 +47,7 @@ returns g c =
     let sized : length L ≡ s.count = window_length s.table s.start s.count in
     let filled : 0 < length L = omega arith in
     let split = window_drop s.table s.start s.count s.begins some in
-    let v = c.in-ok-value.ensures in
+    let v = c.in_ok-value.ensures in
     let count : s.count ≡ suc (s.count - 1) = omega arith in
     record {
       sound = λ sound. record {

@@ -16,11 +16,11 @@ returns-then-beyond g c =
     record {
       sound = λ sound. sound;
       point = record { element = refl; inverse = refl };
-      answer = λ sound. record { refused = replace_beyond g.S.System.sys L c.args.place c.args.e c.in-ok-value.ensures.0 beyond; unchanged = refl };
+      answer = λ sound. record { refused = replace_beyond g.S.System.sys L c.args.place c.args.e c.in_ok-value.ensures.0 beyond; unchanged = refl };
     }
 
-pub returns-in-err-old_value : goal.returns-in-err-old_value
-returns-in-err-old_value g c =
+pub returns-in_err-old_value : goal.returns-in_err-old_value
+returns-in_err-old_value g c =
     let s = c.args.self.now in
     let i = c.args.place in
     let L = window s.table s.start s.count in
@@ -33,7 +33,7 @@ returns-in-err-old_value g c =
       point = record { element = refl; inverse = refl };
       answer = λ sound.
           let below = below_at g.S.System.sys.limit L i sound.below within in
-          let never : ⊥ = omega (arith, old, below, c.in-err-old_value.ensures.0) in
+          let never : ⊥ = omega (arith, old, below, c.in_err-old_value.ensures.0) in
           absurd never;
     }
 
@@ -53,15 +53,15 @@ returns g c =
     let here : i < s.count = omega (arith, leb-false) in
     let within : i < length L = omega arith in
     let old = window_at s.table s.start s.count i here in
-    let v = c.in-ok-value.ensures in
-    let w = c.in-ok-old_value.ensures in
+    let v = c.in_ok-value.ensures in
+    let w = c.in_ok-old_value.ensures in
     let list = window_set s.table s.start s.count i e len s.fits here in
     let change = c.sub.ensures ∙ ap₂ (sub o) v.1 (w.1 ∙ ap (multiple o) (sym old)) in
     let term = c.mul.ensures ∙ ap₂ o.mul change c.exp_u64-power.ensures in
     record {
       sound = λ sound. record {
         inverts = sound.inverts;
-        summed = c.add_self.ensures ∙ ap₂ o.add sound.summed term ∙ sym (ap (sum_of sys x) list ∙ sum_set o W x L i e within);
+        summed = c.add-self.ensures ∙ ap₂ o.add sound.summed term ∙ sym (ap (sum_of sys x) list ∙ sum_set o W x L i e within);
         raised = sound.raised;
         below = subst (Below sys.limit) (sym list) (below_set sys.limit L i e sound.below v.0);
       };

@@ -1,0 +1,19 @@
+// Bits as elements whose lists are shown as far as 65,535 numbers go.
+use super::Bit;
+use numbers::listed::Listed;
+use numbers::prefix_listed::PrefixListed;
+use numbers::refusal::Refusal;
+
+impl PrefixListed for Bit {
+    fn size() -> usize {
+        1
+    }
+
+    fn from_list(numbers: &[u64]) -> Result<Bit, Refusal> {
+        <Bit as Listed>::from_list(numbers)
+    }
+
+    fn number_at(&self, place: usize) -> u32 {
+        if place == 0 && self.on { 1 } else { 0 }
+    }
+}
