@@ -8,4 +8,4 @@ use Rattle.trinomial.proofs.conjugates.trinomial_repeated_frobenius.Given as goa
 abbrev pub invariant-loop-k : goal.invariant-loop-k
 invariant-loop-k g l =
     let s = g.S.System in
-    quintuple s.mean l.image ≡ repeated (table_frobenius s.sys.ops (rows s.mean l.t)) l.-k (quintuple s.mean l.a)
+    quintuple s.mean l.image ≡ repeated (table_frobenius s.sys.ops (rows s.mean l.t)) l._k (quintuple s.mean l.a)
