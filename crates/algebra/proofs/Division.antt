@@ -9,7 +9,7 @@ use lib.ListN.{length}
 use Rattle.algebra.specs.Ring.{Ops, Laws, sub}
 use Rattle.algebra.specs.Units.{IsUnit}
 use Rattle.algebra.specs.Polynomial.{value, Each, Apart, Agree, Agreement}
-use Rattle.algebra.specs.Expr.{Expr, var, ◌⊞◌, ⊟, ◌⊠◌, same, among}
+use Rattle.algebra.specs.Expr.{var, ◌⊞◌, ⊟, ◌⊠◌, same, among}
 use Rattle.algebra.proofs.Laws as R
 use Rattle.algebra.proofs.Units.{unit_cancel}
 use Rattle.algebra.proofs.Polynomials.{horner}

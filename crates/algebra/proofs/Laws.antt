@@ -1,5 +1,5 @@
 -- What follows from the laws of a commutative ring.
-use mathlib.Core.Path.{◌≡◌, refl, sym, ◌∙◌, ap, ap₂}
+use mathlib.Core.Path.{◌≡◌, sym, ◌∙◌, ap, ap₂}
 use Rattle.algebra.specs.Ring.{Ops, Laws}
 
 module _ {A : Type 0} (o : Ops A) (L : Laws o) where

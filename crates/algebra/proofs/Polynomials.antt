@@ -1,5 +1,5 @@
 -- The value of a polynomial, from its lowest coefficient up.
-use mathlib.Core.Path.{◌≡◌, refl, sym, ◌∙◌, ap, ap₂}
+use mathlib.Core.Path.{◌≡◌, sym, ◌∙◌, ap₂}
 use mathlib.Core.List.{List, [], ◌∷◌}
 use Prim.Native.Nat.{ℕ, suc}
 use Rattle.algebra.specs.Ring.{Ops, Laws, power, total}

@@ -1,11 +1,10 @@
 -- Powers and finite sums.
-use mathlib.Core.Path.{◌≡◌, refl, sym, ◌∙◌, ap, ap₂}
+use mathlib.Core.Path.{◌≡◌, refl, sym, ◌∙◌, ap}
 use mathlib.Core.List.{List, [], ◌∷◌, ◌++◌, map}
 use Prim.Native.Nat as N
 use Prim.Native.Nat.{ℕ, suc, ◌+◌, ◌*◌}
 use native.Mathlib.Nat as Nat
-use native.Mathlib.Omega.{arith}
-use Rattle.algebra.specs.Ring.{Ops, Laws, Derived, Counting, power, total, products, dot}
+use Rattle.algebra.specs.Ring.{Ops, Laws, Derived, Counting, power, total}
 use Rattle.algebra.proofs.Laws as R
 use Rattle.algebra.proofs.Multiples as M
 

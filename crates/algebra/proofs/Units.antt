@@ -1,5 +1,5 @@
 -- The laws of units.
-use mathlib.Core.Path.{◌≡◌, refl, sym, ◌∙◌, ap, ap₂}
+use mathlib.Core.Path.{◌≡◌, sym, ◌∙◌, ap, ap₂}
 use Rattle.algebra.specs.Ring.{Ops, Laws}
 use Rattle.algebra.specs.Units.{Inverts, IsUnit, UnitLaws}
 use Rattle.algebra.proofs.Laws as R

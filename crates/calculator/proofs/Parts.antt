@@ -1,6 +1,5 @@
 -- The parts of a text between separators.
-use Rattle.std.proofs.Common.{◌≡◌, ℕ, suc, ◌+◌, ◌<◌, Bool, true, false, T, eqb, List, [], ◌∷◌, ◌++◌, length, get_or, Some, None, Option, sym, refl, ap, ◌∙◌, subst, arith, eqb→eq}
-use Prim.Native.Nat as N
+use Rattle.std.proofs.Common.{◌≡◌, ℕ, suc, true, false, T, eqb, List, [], ◌∷◌, ◌++◌, length, Some, None, Option, sym, refl, ap, ◌∙◌, subst, arith, eqb→eq}
 use lib.Dec.{eqb_refl}
 use Rattle.std.specs.Str.Iter.{LacksByte}
 use Rattle.std.proofs.lemmas.List.{append_cancel_right}

@@ -1,13 +1,11 @@
 -- A reason that holds of the words of a line says that no command is written so.
-use Rattle.std.proofs.Common.{◌≡◌, ℕ, ◌+◌, Bool, true, false, eqb, ◌⊎◌, List, [], ◌∷◌, length, get_or, codes, sym, refl, ap, ◌∙◌, subst, inl, inr, ⊎_elim, arith}
-use Rattle.calculator.specs.Text.{Number, Listing}
-use Rattle.calculator.specs.Commands.{modulus_text, verb_text, verb_of, operands, Operands, word, Writes, Fails, Because, Hindered, Nothing}
+use Rattle.std.proofs.Common.{◌≡◌, ℕ, ◌+◌, true, false, eqb, ◌⊎◌, List, length, get_or, codes, sym, refl, ap, ◌∙◌, subst, inl, inr, ⊎_elim}
+use Rattle.calculator.specs.Commands.{modulus_text, verb_text, verb_of, operands, Operands, word, Fails, Because, Hindered, Nothing}
 use Rattle.calculator.specs.declared.command.Base.{Base}
 use Rattle.calculator.specs.declared.command.Verb as V
 use Rattle.calculator.specs.declared.command.Verb.{Verb}
 use Rattle.calculator.specs.declared.command.Call.{Call}
 use Rattle.calculator.specs.declared.command.Call.TheVariants.{Sum, Difference, Negative, Multiply, Square, Power, Entry, Inverse}
-use Rattle.calculator.specs.declared.command.Command.{Command}
 use Rattle.calculator.specs.declared.command.Fault.{Fault}
 use Rattle.calculator.specs.declared.command.Fault.TheVariants.{Unreadable, NoMemory}
 use Rattle.calculator.specs.declared.command.Reason.{Reason}

@@ -1,5 +1,5 @@
 -- A command whose lists are shown as lists of numbers, and lists as they are written.
-use Rattle.std.proofs.Common.{◌≡◌, ℕ, suc, ◌+◌, ◌<◌, List, [], ◌∷◌, ◌++◌, map, length, get_or, take, decimal, sym, refl, ap, ◌∙◌, subst, append_assoc, arith, length-take}
+use Rattle.std.proofs.Common.{◌≡◌, ℕ, suc, ◌+◌, ◌<◌, List, [], ◌∷◌, ◌++◌, map, length, get_or, take, decimal, sym, refl, ap, ◌∙◌, append_assoc, arith, length-take}
 use mathlib.Core.List.{map-append}
 use Prim.Native.Nat as N
 use Rattle.std.specs.List.{join_with_byte}

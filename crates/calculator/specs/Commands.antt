@@ -1,5 +1,5 @@
 -- Which line is which command, and why a line is none.
-use Rattle.std.specs.Prelude.{◌≡◌, ℕ, ◌+◌, ◌⊎◌, List, [], ◌∷◌, length, codes, ◌≢◌, slice_index_or}
+use Rattle.std.specs.Prelude.{◌≡◌, ℕ, ◌+◌, ◌⊎◌, List, [], length, codes, ◌≢◌, slice_index_or}
 use Rattle.calculator.specs.Text.{Number, Listing}
 use Rattle.calculator.specs.declared.command.Base.{Base}
 use Rattle.calculator.specs.declared.command.Base.TheVariants.{Two, Eleven, BabyBear, KoalaBear, Mersenne31}

@@ -1,6 +1,6 @@
 -- What a call gives in a number system. Its operands are lists of numbers, which are to be elements.
 use Rattle.std.specs.Prelude.{◌≡◌, ℕ, ◌<◌, ◌≤◌, ◌⊎◌, List, [], ◌∷◌, Ok, Err, Result}
-use Rattle.algebra.specs.Ring.{Ops, sub, multiple, power}
+use Rattle.algebra.specs.Ring.{sub, multiple, power}
 use Rattle.algebra.specs.Units.{Inverts, NoInverse}
 use Rattle.std.proofs.Common.{lit≤}
 use Rattle.bases.specs.Bits.{bits}

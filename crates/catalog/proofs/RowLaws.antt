@@ -3,17 +3,16 @@ use mathlib.Core.Path.{◌≡◌, refl}
 use mathlib.Core.Bool.{Bool, true, false}
 use Prim.Native.Nat.{ℕ}
 use lib.Dec.{lit≤}
-use Rattle.algebra.specs.Ring.{Ops, Laws}
 use Rattle.numbers.specs.Systems.{Sys, Lawful}
-use Rattle.bases.specs.Bits.{bit_ops, bits}
-use Rattle.bases.specs.Residues.{Res, res, res_ops, residues}
+use Rattle.bases.specs.Bits.{bit_ops}
+use Rattle.bases.specs.Residues.{Res, res, residues}
 use Rattle.bases.specs.BitsLemmas.{bits_lawful}
 use Rattle.bases.specs.ResiduesLemmas.{residues_lawful}
 use Rattle.extensions.specs.Conjugates.{RowPowers, TableLaw}
 use Rattle.extensions.specs.Tuples.{Tuple}
 use Rattle.extensions.proofs.Lawful.{trinomial_lawful}
 use Rattle.extensions.specs.Extensions.{trinomial_extension}
-use Rattle.extensions.proofs.Tables.{period_by_generator, fixed_by_rows, generator}
+use Rattle.extensions.proofs.Tables.{period_by_generator, fixed_by_rows}
 
 abbrev r : ℕ → Res 2130706433
 r = res 2130706433 (lit≤ tt)

@@ -1,7 +1,7 @@
 -- The products are residue classes: the quotient has the coefficients from the degree on.
 use Rattle.std.proofs.Common.{ℕ, ◌+◌, List, [], ◌∷◌, ◌++◌, get_or}
 use Rattle.algebra.specs.Ring.{Ops, Laws, sub}
-use Rattle.algebra.specs.Expr.{Expr, var, exprs, same, among}
+use Rattle.algebra.specs.Expr.{var, exprs, same, among}
 use Rattle.extensions.specs.Tuples.{Tuple, entries, tabulate}
 use Rattle.extensions.specs.Schoolbook.{coefficient, binomial, trinomial}
 use Rattle.extensions.specs.Classes.{binomial_modulus, trinomial_modulus, ResidueClass}

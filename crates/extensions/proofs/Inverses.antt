@@ -1,12 +1,12 @@
 -- Inverses by conjugates: in an extension with a conjugation the norm lies in the layer below, and an element has an inverse exactly where its norm has one.
-use Rattle.std.proofs.Common.{◌≡◌, ℕ, suc, sym, refl, ap, ◌∙◌, ap₂}
+use Rattle.std.proofs.Common.{◌≡◌, ℕ, suc, sym, refl, ap, ◌∙◌}
 use Prim.Native.Nat as N
 use Rattle.algebra.specs.Ring.{Ops, Laws}
 use Rattle.algebra.specs.Units.{Inverts}
 use Rattle.algebra.proofs.Laws as R
-use Rattle.extensions.specs.Tuples.{Tuple, each, fill}
+use Rattle.extensions.specs.Tuples.{Tuple, fill}
 use Rattle.extensions.specs.Extensions.{extend}
-use Rattle.extensions.specs.Conjugates.{repeated, embed, scaled, conjugates, Conjugation}
+use Rattle.extensions.specs.Conjugates.{embed, scaled, conjugates, Conjugation}
 use Rattle.extensions.proofs.Norms as M
 
 -- zeros times anything are zeros

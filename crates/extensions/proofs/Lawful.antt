@@ -1,10 +1,10 @@
 -- An extension is a number system again, whatever its product, if that makes it a ring.
-use Rattle.std.proofs.Common.{◌≡◌, ℕ, suc, ◌+◌, ◌*◌, T, List, [], ◌∷◌, ◌++◌, length, sym, refl, ap, ◌∙◌, subst, ap₂, arith, length-append}
+use Rattle.std.proofs.Common.{◌≡◌, ℕ, suc, ◌+◌, ◌*◌, T, List, [], ◌∷◌, ◌++◌, length, sym, refl, ap, ◌∙◌, ap₂, arith, length-append}
 use Prim.Native.Nat as N
 use native.Mathlib.Nat as Nat
 use Rattle.algebra.specs.Ring.{Ops, Laws, multiple}
 use Rattle.numbers.specs.Systems.{Sys, Lawful}
-use Rattle.extensions.specs.Tuples.{Tuple, both, fill}
+use Rattle.extensions.specs.Tuples.{Tuple, fill}
 use Rattle.extensions.specs.Schoolbook.{binomial}
 use Rattle.extensions.specs.Extensions.{extend, joined, Parts, extension, binomial_extension, trinomial_extension}
 use Rattle.extensions.proofs.Products.{passes, binomial_laws, trinomial_laws}

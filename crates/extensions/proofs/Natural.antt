@@ -1,10 +1,9 @@
 -- A product of tuples of expressions means the product of what they mean.
 use Rattle.std.proofs.Common.{◌≡◌, ℕ, suc, ◌+◌, ◌-◌, List, [], ◌∷◌, ◌++◌, map, length, get_or, sym, refl, ap, ◌∙◌, ap₂}
 use Prim.Native.Nat as N
-use native.Mathlib.Nat as Nat
 use Rattle.std.proofs.lemmas.List.{get_or-append-add}
 use Rattle.algebra.specs.Ring.{Ops}
-use Rattle.algebra.specs.Expr.{Expr, var, 𝟎, ◌⊞◌, exprs, eval, among}
+use Rattle.algebra.specs.Expr.{Expr, var, 𝟎, exprs, eval, among}
 use Rattle.extensions.specs.Tuples.{Tuple, entries, tabulate, each, both, fill}
 use Rattle.extensions.specs.Schoolbook.{sum_to, coefficient, binomial}
 use Rattle.extensions.proofs.Tuples.{vars}

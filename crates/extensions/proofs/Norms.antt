@@ -1,6 +1,6 @@
 -- The norm by conjugates, over any ring with a map that keeps one and products. Where the map has period d + 1 and leaves only the layer below where it is, the product of
 -- all conjugates of an element lies there, and the element has an inverse exactly where that product has one.
-use Rattle.std.proofs.Common.{◌≡◌, ℕ, suc, ◌+◌, sym, refl, ap, ◌∙◌, ap₂}
+use Rattle.std.proofs.Common.{◌≡◌, ℕ, suc, sym, refl, ap, ◌∙◌}
 use Prim.Native.Nat as N
 use Rattle.algebra.specs.Ring.{Ops, Laws}
 use Rattle.algebra.specs.Units.{Inverts}

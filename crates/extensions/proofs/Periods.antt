@@ -1,5 +1,5 @@
 -- A map with a period, applied again and again.
-use Rattle.std.proofs.Common.{◌≡◌, ℕ, suc, ◌+◌, ◌*◌, ◌/◌, ◌%◌, sym, refl, ap, ◌∙◌}
+use Rattle.std.proofs.Common.{◌≡◌, ℕ, suc, ◌+◌, ◌*◌, ◌/◌, ◌%◌, sym, ap, ◌∙◌}
 use Prim.Native.Nat as N
 use native.Mathlib.Nat as Nat
 use Rattle.extensions.specs.Conjugates.{repeated}

@@ -1,6 +1,6 @@
 -- The products of the extensions are associative and commutative, have one, and distribute over the sum. Said once for every formula that means itself over
 -- expressions; that a formula passes the test is then computed, degree by degree.
-use Rattle.std.proofs.Common.{◌≡◌, ℕ, suc, ◌+◌, Bool, ◌&&◌, T, List, [], ◌∷◌, ◌++◌, length, sym, refl, ap, ◌∙◌, ap₂, append_assoc, one-add, length-append}
+use Rattle.std.proofs.Common.{◌≡◌, ℕ, suc, ◌+◌, Bool, ◌&&◌, T, [], ◌∷◌, ◌++◌, sym, refl, ap, ◌∙◌, ap₂, append_assoc, one-add, length-append}
 use native.Mathlib.Nat as Nat
 use Rattle.algebra.specs.Ring.{Ops, Laws}
 use Rattle.algebra.specs.Expr.{Expr, var, 𝟎, 𝟏, ◌⊞◌, ◌⊠◌, exprs, eval, same, among}

@@ -1,16 +1,14 @@
 -- Frobenius of a binomial extension by the root law: it keeps sums and products, has the degree as its period, and leaves only the layer below where it is.
-use Rattle.std.proofs.Common.{◌≡◌, ℕ, suc, ◌+◌, ◌-◌, ◌*◌, ◌/◌, ◌%◌, ◌<◌, ◌≤◌, List, [], ◌∷◌, map, length, get_or, sym, refl, ap, ◌∙◌, ap₂, arith}
+use Rattle.std.proofs.Common.{◌≡◌, ℕ, suc, ◌+◌, ◌-◌, ◌*◌, ◌/◌, ◌%◌, ◌≤◌, get_or, sym, refl, ap, ◌∙◌, ap₂, arith}
 use Prim.Native.Nat as N
 use native.Mathlib.Nat as Nat
 use Rattle.algebra.specs.Ring.{Ops, Laws, sub, power}
-use Rattle.algebra.specs.Units.{IsUnit}
 use Rattle.algebra.proofs.Laws as R
 use Rattle.algebra.proofs.Powers as P
 use Rattle.algebra.proofs.Units.{unit_cancel}
-use Rattle.extensions.specs.Tuples.{Tuple, entries, tabulate, each, both, fill}
+use Rattle.extensions.specs.Tuples.{Tuple, entries, tabulate, both, fill}
 use Rattle.extensions.specs.Schoolbook.{sum_to, coefficient, binomial}
 use Rattle.extensions.specs.Conjugates.{repeated, embed, Conjugation, RootLaw, root_frobenius_map}
-use Rattle.extensions.proofs.Natural.{tabulate_same}
 use Rattle.extensions.proofs.Tuples.{get_d_tabulate, tuple_same}
 
 sum_to_same : {A : Type 0} (o : Ops A) (f g : ℕ → A) (k : ℕ) → ((i : ℕ) → i ≤ k → f i ≡ g i) → sum_to o f k ≡ sum_to o g k

@@ -1,5 +1,5 @@
 -- Tuples place by place, and equations between tuples of expressions by the solver.
-use Rattle.std.proofs.Common.{◌≡◌, ℕ, suc, ◌+◌, ◌<◌, Bool, true, false, ◌&&◌, T, List, [], ◌∷◌, get_or, sym, refl, ap, ◌∙◌, arith}
+use Rattle.std.proofs.Common.{◌≡◌, ℕ, suc, ◌+◌, ◌<◌, Bool, true, false, ◌&&◌, T, get_or, refl, arith}
 use Prim.Native.Nat as N
 use Rattle.algebra.specs.Ring.{Ops, Laws}
 use Rattle.algebra.specs.Expr.{Expr, var, eval, same}

@@ -1,5 +1,5 @@
 -- The residue classes of polynomials modulo a polynomial: what the products of the extensions are.
-use Rattle.std.specs.Prelude.{◌≡◌, ℕ, suc, ◌+◌, ◌-◌, List, [], ◌∷◌, ◌++◌, replicate, slice_index_or}
+use Rattle.std.specs.Prelude.{◌≡◌, ℕ, ◌+◌, ◌-◌, List, [], ◌∷◌, ◌++◌, replicate, slice_index_or}
 use Rattle.algebra.specs.Ring.{Ops}
 use Rattle.extensions.specs.Tuples.{Tuple, entries, tabulate}
 use Rattle.extensions.specs.Schoolbook.{coefficient}

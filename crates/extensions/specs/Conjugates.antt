@@ -1,10 +1,9 @@
 -- Conjugates: the Frobenius map of an extension, and the laws of the constants that give it.
-use Rattle.std.specs.Prelude.{◌≡◌, ℕ, zero, suc, ◌<◌, List, [], ◌∷◌, ◌≢◌, slice_index_or}
+use Rattle.std.specs.Prelude.{◌≡◌, ℕ, zero, suc, ◌<◌, ◌≢◌, slice_index_or}
 use Rattle.algebra.specs.Ring.{Ops, sub, power}
 use Rattle.algebra.specs.Units.{IsUnit, Inverts, NoInverse}
 use Rattle.extensions.specs.Tuples.{Tuple, entries, tabulate, each, both, fill}
 use Rattle.extensions.specs.Schoolbook.{trinomial}
-use Rattle.extensions.specs.Extensions.{extend}
 
 -- f applied k times
 abbrev pub repeated : {E : Type 0} → (E → E) → ℕ → E → E

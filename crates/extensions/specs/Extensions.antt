@@ -1,5 +1,5 @@
 -- Extensions of number systems. An element is a tuple of elements of the system below; only the product differs from extension to extension.
-use Rattle.std.specs.Prelude.{◌≡◌, ℕ, zero, suc, ◌*◌, List, [], ◌∷◌, ◌++◌}
+use Rattle.std.specs.Prelude.{◌≡◌, ℕ, zero, suc, ◌*◌, List, [], ◌++◌}
 use Rattle.algebra.specs.Ring.{Ops}
 use Rattle.numbers.specs.Systems.{Sys}
 use Rattle.extensions.specs.Tuples.{Tuple, each, both, fill}

@@ -1,5 +1,5 @@
 -- The schoolbook product of polynomials by their coefficients, and its reduction by a modulus.
-use Rattle.std.specs.Prelude.{ℕ, zero, suc, ◌+◌, ◌-◌, List, [], ◌∷◌, slice_index_or}
+use Rattle.std.specs.Prelude.{ℕ, zero, suc, ◌+◌, ◌-◌, List, slice_index_or}
 use Rattle.algebra.specs.Ring.{Ops, sub}
 use Rattle.extensions.specs.Tuples.{Tuple, entries, tabulate}
 

@@ -1,6 +1,5 @@
 -- Rows by computing: elements are what their lists say, and an inverse is the only one.
 use Rattle.std.proofs.Common.{◌≡◌, ℕ, List, Some, None, Option, sym, ap, ◌∙◌, ap₂}
-use Rattle.algebra.specs.Units.{NoInverse}
 use Rattle.algebra.proofs.Laws.{zero-mul}
 use Rattle.algebra.proofs.Units.{inverse_unique}
 use Rattle.numbers.specs.Systems.{Sys, Lawful}

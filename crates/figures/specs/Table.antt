@@ -1,5 +1,5 @@
 -- The table of worked figures.
-use Rattle.std.specs.Prelude.{◌≡◌, ℕ, ◌≤◌, List, [], ◌∷◌, None}
+use Rattle.std.specs.Prelude.{◌≡◌, ℕ, ◌≤◌, [], ◌∷◌, None}
 use Rattle.std.proofs.Common.{lit≤}
 use Rattle.bases.specs.Residues.{Res, res}
 use Rattle.bases.specs.declared.bit.Bit.{Bit}

@@ -1,11 +1,10 @@
 -- Binary digits of a number, and powers by the digits of the exponent.
-use Rattle.std.proofs.Common.{◌≡◌, ℕ, suc, ◌+◌, ◌-◌, ◌*◌, ◌/◌, ◌%◌, ◌^◌, ◌<◌, ◌≤◌, sym, refl, ap, ◌∙◌, subst, ap₂, add-one, arith}
+use Rattle.std.proofs.Common.{◌≡◌, ℕ, suc, ◌+◌, ◌-◌, ◌*◌, ◌/◌, ◌%◌, ◌^◌, ◌<◌, ◌≤◌, sym, ap, ◌∙◌, subst, ap₂, add-one, arith}
 use Prim.Native.Nat as N
 use native.Mathlib.Nat.{pow-succ', div-add-mod}
 use lib.Count.{count_leading_zeros}
 use Rattle.std.proofs.lemmas.Nat.{leading_length, shr-shr}
 use Rattle.algebra.specs.Ring.{Ops, Laws, power}
-use Rattle.algebra.proofs.Laws as R
 use Rattle.algebra.proofs.Powers as P
 
 -- a power of two of which the double is at most n doubled and one more is at most n

@@ -1,5 +1,5 @@
 -- Sums of products: joined, and filled up with products of zero.
-use Rattle.std.proofs.Common.{◌≡◌, ℕ, suc, List, [], ◌∷◌, ◌++◌, replicate, sym, refl, ap, ◌∙◌, ap₂}
+use Rattle.std.proofs.Common.{◌≡◌, ℕ, suc, List, ◌++◌, replicate, sym, refl, ap, ◌∙◌, ap₂}
 use Prim.Native.Nat as N
 use Rattle.algebra.specs.Ring.{Ops, Laws, total}
 use Rattle.algebra.proofs.Laws as R

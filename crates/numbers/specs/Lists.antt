@@ -1,5 +1,5 @@
 -- Lists of numbers that are to be elements: which are refused, and how.
-use Rattle.std.specs.Prelude.{◌≡◌, ℕ, ◌⊎◌, List, [], ◌∷◌, length}
+use Rattle.std.specs.Prelude.{◌≡◌, ℕ, ◌⊎◌, List, length}
 use Rattle.algebra.specs.Polynomial.{Each}
 use Rattle.numbers.specs.Systems.{Sys}
 use Rattle.numbers.specs.declared.refusal.Refusal.{Refusal}

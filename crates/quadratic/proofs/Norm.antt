@@ -1,8 +1,8 @@
 -- The norm of the quadratic extension of any commutative ring, and inverses by it.
-use Rattle.std.proofs.Common.{◌≡◌, ℕ, List, [], ◌∷◌, sym, refl, ap, ◌∙◌, ap₂}
+use Rattle.std.proofs.Common.{◌≡◌, ℕ, [], ◌∷◌, sym, ap, ◌∙◌}
 use Rattle.algebra.specs.Ring.{Ops, Laws}
 use Rattle.algebra.specs.Units.{Inverts}
-use Rattle.algebra.specs.Expr.{Expr, var, 𝟏, 𝟎, ◌⊞◌, ⊟, ◌⊠◌, exprs, eval, same, among}
+use Rattle.algebra.specs.Expr.{Expr, var, 𝟏, 𝟎, ◌⊠◌, exprs, same, among}
 use Rattle.algebra.proofs.Solver.{solve, solve_by}
 use Rattle.extensions.specs.Tuples.{Tuple}
 use Rattle.extensions.specs.Schoolbook.{binomial}

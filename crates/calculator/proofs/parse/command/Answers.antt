@@ -1,4 +1,4 @@
-use Rattle.std.proofs.Common.{◌≡◌, ℕ, ◌+◌, List, map, length, vec_items, codes, sym, ap, ◌∙◌, subst, rules}
+use Rattle.std.proofs.Common.{◌≡◌, ◌+◌, map, vec_items, codes, sym, ap, ◌∙◌, subst, rules}
 use Rattle.std.proofs.lemmas.List.{length-map}
 use Rattle.calculator.specs.Commands.{word, verb_text, operands, Operands, Fails, Hindered}
 use Rattle.calculator.proofs.Reasons.{because_operand}

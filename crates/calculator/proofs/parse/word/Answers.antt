@@ -1,4 +1,4 @@
-use Rattle.std.proofs.Common.{◌≡◌, ◌≤◌, [], map, length, sym, arith}
+use Rattle.std.proofs.Common.{◌≤◌, [], map, length, sym, arith}
 use Rattle.std.proofs.lemmas.List.{length-map, get_or-map, get_or_past}
 use Rattle.calculator.proofs.parse.word.Goals as goal
 

@@ -1,4 +1,4 @@
-use Rattle.std.proofs.Common.{◌≡◌, map, length, vec_items, sym, ap, ◌∙◌, arith, rules}
+use Rattle.std.proofs.Common.{◌≡◌, map, vec_items, sym, ap, ◌∙◌, rules}
 use Rattle.calculator.specs.Text.{items, Numbers, Listing}
 use Rattle.calculator.proofs.Parts.{found_same, listing_items, items_listing, items_some}
 use Rattle.calculator.proofs.text.list.Goals as goal

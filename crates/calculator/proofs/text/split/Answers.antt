@@ -1,4 +1,4 @@
-use Rattle.std.proofs.Common.{◌≡◌, ℕ, List, [], ◌∷◌, ◌++◌, map, Some, None, vec_items, sym, refl, ap, ◌∙◌, ap₂, append_assoc, rules}
+use Rattle.std.proofs.Common.{◌≡◌, [], ◌∷◌, ◌++◌, map, Some, None, vec_items, sym, ap, ◌∙◌, append_assoc, rules}
 use mathlib.Core.List.{map-append}
 use Rattle.std.proofs.lemmas.Str.Pattern.{split_parts}
 use Rattle.calculator.specs.Text.{parts}

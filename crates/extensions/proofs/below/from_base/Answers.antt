@@ -1,5 +1,4 @@
-use Rattle.std.proofs.Common.{suc, sym, ap, ◌∙◌}
-use Rattle.extensions.specs.Tuples.{each}
+use Rattle.std.proofs.Common.{sym, ap, ◌∙◌}
 use Rattle.extensions.proofs.Coefficients.{put_first}
 use Rattle.extensions.proofs.below.from_base.Goals as goal
 

@@ -1,4 +1,4 @@
-use Rattle.std.proofs.Common.{◌≡◌, ℕ, suc, ◌<◌, ◌≤◌, sym, ap, ◌∙◌, arith, below_more}
+use Rattle.std.proofs.Common.{◌≡◌, suc, ◌≤◌, sym, ◌∙◌, arith, below_more}
 use Rattle.extensions.specs.Tuples.{each}
 use Rattle.extensions.proofs.Coefficients.{at, zeros_above, zero_above}
 use Rattle.extensions.proofs.below.is_in_basefield.Goals as goal

@@ -1,4 +1,4 @@
-use Rattle.std.proofs.Common.{◌≡◌, ℕ, suc, ◌<◌, sym, ap, ◌∙◌, arith}
+use Rattle.std.proofs.Common.{◌≡◌, suc, ◌<◌, ap, ◌∙◌, arith}
 use Rattle.extensions.specs.Tuples.{each}
 use Rattle.extensions.proofs.Coefficients.{at, written_more, tabulated, scaled-tabulate}
 use Rattle.extensions.proofs.below.scale.Goals as goal

@@ -1,4 +1,4 @@
-use Rattle.std.proofs.Common.{◌≡◌, ℕ, suc, ◌+◌, ◌<◌, sym, ap, ◌∙◌, ap₂, add-one, arith}
+use Rattle.std.proofs.Common.{◌≡◌, suc, ◌<◌, sym, ap, ◌∙◌, ap₂, add-one, arith}
 use Rattle.algebra.specs.Ring.{power}
 use Rattle.extensions.specs.Tuples.{each}
 use Rattle.extensions.proofs.Coefficients.{at, written_more, tabulated}

@@ -1,9 +1,9 @@
-use Rattle.std.proofs.Common.{◌≡◌, ℕ, suc, ◌+◌, ◌-◌, ◌*◌, ◌/◌, ◌%◌, ◌<◌, ◌≤◌, min, List, [], ◌∷◌, length, take, drop, sym, ap, ◌∙◌, subst, ap₂, arith, length-drop, length-take, rules}
+use Rattle.std.proofs.Common.{◌≡◌, ℕ, suc, ◌+◌, ◌*◌, ◌/◌, ◌%◌, ◌<◌, ◌≤◌, min, [], ◌∷◌, length, take, drop, sym, ap, ◌∙◌, subst, arith, length-drop, length-take, rules}
 use native.Mathlib.Nat as Nat
 use Rattle.numbers.specs.Lists.{Refused}
 use Rattle.extensions.specs.Extensions.{joined}
 use Rattle.extensions.specs.Tuples.{each}
-use Rattle.extensions.proofs.Coefficients.{at, written_more}
+use Rattle.extensions.proofs.Coefficients.{written_more}
 use Rattle.extensions.proofs.Cuts.{part_within, joined_parts_list, uneven, refused_part}
 use Rattle.extensions.proofs.lists.extension_from_list.Goals as goal
 

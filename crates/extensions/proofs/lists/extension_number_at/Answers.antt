@@ -1,4 +1,4 @@
-use Rattle.std.proofs.Common.{◌≡◌, ℕ, suc, ◌+◌, ◌*◌, ◌/◌, ◌%◌, ◌<◌, ◌≤◌, min, length, get_or, take, sym, ap, ◌∙◌, subst, arith, length-take}
+use Rattle.std.proofs.Common.{◌≡◌, suc, ◌*◌, ◌/◌, ◌%◌, ◌<◌, ◌≤◌, min, length, get_or, take, sym, ap, ◌∙◌, subst, arith, length-take}
 use native.Mathlib.Nat as Nat
 use Rattle.std.proofs.lemmas.List.{get_or-take, get_or_past}
 use Rattle.extensions.specs.Extensions.{joined}

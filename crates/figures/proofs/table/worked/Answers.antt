@@ -1,4 +1,4 @@
-use Rattle.std.proofs.Common.{◌≡◌, ℕ, true, false, List, [], ◌∷◌, refl, arith, lit≤}
+use Rattle.std.proofs.Common.{◌≡◌, ℕ, true, false, refl, arith, lit≤}
 use Rattle.bases.specs.Residues.{Res, res}
 use Rattle.catalog.specs.Catalog.{system_1, system_2, system_3, system_5, system_7, system_8, system_9}
 use Rattle.catalog.proofs.NineLawful.{lawful_1, lawful_2, lawful_3, lawful_5, lawful_7, lawful_8, lawful_9}

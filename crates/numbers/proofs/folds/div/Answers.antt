@@ -1,4 +1,4 @@
-use Rattle.std.proofs.Common.{sym, ap, ◌∙◌}
+use Rattle.std.proofs.Common.{ap, ◌∙◌}
 use Rattle.algebra.proofs.Units.{inverse_unique}
 use Rattle.numbers.proofs.folds.div.Goals as goal
 

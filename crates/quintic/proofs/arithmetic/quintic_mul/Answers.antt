@@ -1,6 +1,6 @@
 use Rattle.std.proofs.Common.{[], ◌∷◌, ap, ◌∙◌}
 use Rattle.algebra.specs.Ring.{dot}
-use Rattle.algebra.specs.Expr.{var, ◌⊞◌, ◌⊠◌, exprs, same, among}
+use Rattle.algebra.specs.Expr.{var, ◌⊠◌, exprs, same, among}
 use Rattle.extensions.specs.Schoolbook.{binomial}
 use Rattle.extensions.proofs.Tuples.{vars, solves}
 use Rattle.quintic.proofs.arithmetic.quintic_mul.Goals as goal

@@ -1,6 +1,6 @@
 use Rattle.std.proofs.Common.{[], ◌∷◌, ap, ◌∙◌}
 use Rattle.algebra.specs.Ring.{dot}
-use Rattle.algebra.specs.Expr.{var, ◌⊞◌, ◌⊠◌, exprs, same, among}
+use Rattle.algebra.specs.Expr.{var, exprs, same, among}
 use Rattle.extensions.specs.Schoolbook.{binomial}
 use Rattle.algebra.proofs.Solver.{solve}
 use Rattle.extensions.proofs.Tuples.{vars}

@@ -1,4 +1,4 @@
-use Rattle.std.proofs.Common.{◌≡◌, [], ◌∷◌, ap, ◌∙◌}
+use Rattle.std.proofs.Common.{◌≡◌, [], ◌∷◌, ◌∙◌}
 use Rattle.algebra.specs.Ring.{dot}
 use Rattle.algebra.specs.Expr.{var, ◌⊞◌, ◌⊠◌, exprs, same, among}
 use Rattle.extensions.specs.Schoolbook.{binomial}

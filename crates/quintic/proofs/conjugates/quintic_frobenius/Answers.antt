@@ -1,9 +1,8 @@
-use Rattle.std.proofs.Common.{◌≡◌, [], ◌∷◌, sym, refl, ap, ◌∙◌}
+use Rattle.std.proofs.Common.{◌≡◌, [], ◌∷◌, ap, ◌∙◌}
 use Rattle.algebra.specs.Expr.{var, ◌⊠◌, exprs, same, among}
 use Rattle.extensions.specs.Conjugates.{root_frobenius_map}
 use Rattle.extensions.proofs.Roots.{root_conjugation}
 use Rattle.extensions.proofs.Tuples.{vars, solves}
-use Rattle.quintic.specs.Quintuples.{quintuple}
 use Rattle.quintic.proofs.conjugates.quintic_frobenius.Goals as goal
 
 pub returns : goal.returns

@@ -1,13 +1,13 @@
-use Rattle.std.proofs.Common.{◌≡◌, sym, ap, ◌∙◌, ap₂}
+use Rattle.std.proofs.Common.{sym, ap, ◌∙◌}
 use Rattle.algebra.specs.Ring.{Laws}
-use Rattle.extensions.specs.Conjugates.{scaled, Conjugation, RootLaw, root_frobenius_map}
+use Rattle.extensions.specs.Conjugates.{scaled, Conjugation, root_frobenius_map}
 use Rattle.extensions.specs.Schoolbook.{binomial}
 use Rattle.extensions.specs.Extensions.{extend}
 use Rattle.extensions.proofs.Inverses.{whole, inverse_by_conjugates, conjugates_inverse}
 use Rattle.extensions.proofs.Norms.{conjugates_four}
 use Rattle.extensions.proofs.Products.{binomial_laws, binomial_scales, quintic_passes}
 use Rattle.extensions.proofs.Roots.{root_conjugation}
-use Rattle.quintic.specs.Quintuples.{quintuple, other_conjugates_of}
+use Rattle.quintic.specs.Quintuples.{quintuple}
 use Rattle.quintic.proofs.conjugates.quintic_inv.Goals as goal
 
 pub returns-in-Some : goal.returns-in-Some

@@ -1,4 +1,4 @@
-use Rattle.std.proofs.Common.{◌%◌, ap, ◌∙◌}
+use Rattle.std.proofs.Common.{ap, ◌∙◌}
 use Rattle.extensions.specs.Conjugates.{root_frobenius_map}
 use Rattle.extensions.proofs.Roots.{root_repeated, root_modulo}
 use Rattle.quintic.specs.Quintuples.{quintuple}

@@ -1,13 +1,9 @@
-use Rattle.std.proofs.Common.{◌≡◌, [], ◌∷◌, sym, refl, ap, ◌∙◌, ap₂}
+use Rattle.std.proofs.Common.{◌≡◌, [], ◌∷◌, ◌∙◌}
 use Rattle.algebra.specs.Ring.{dot}
-use Rattle.algebra.specs.Expr.{var, ◌⊞◌, ⊟, ◌⊠◌, exprs, same, among}
-use Rattle.algebra.proofs.Solver.{solve}
-use Rattle.extensions.specs.Conjugates.{table_frobenius}
+use Rattle.algebra.specs.Expr.{var, ◌⊞◌, ◌⊠◌, exprs, same, among}
 use Rattle.extensions.specs.Schoolbook.{trinomial}
-use Rattle.extensions.proofs.Tables.{table_conjugation}
 use Rattle.extensions.proofs.Tuples.{vars, solves}
 use Rattle.trinomial.specs.Reduce.{reduced}
-use Rattle.trinomial.specs.Rows.{rows}
 use Rattle.trinomial.proofs.arithmetic.quintic_square.Goals as goal
 
 pub returns : goal.returns

@@ -1,13 +1,7 @@
-use Rattle.std.proofs.Common.{◌≡◌, [], ◌∷◌, sym, refl, ap, ◌∙◌, ap₂}
-use Rattle.algebra.specs.Ring.{dot}
-use Rattle.algebra.specs.Expr.{var, ◌⊞◌, ⊟, ◌⊠◌, exprs, same, among}
-use Rattle.algebra.proofs.Solver.{solve}
-use Rattle.extensions.specs.Conjugates.{table_frobenius}
-use Rattle.extensions.specs.Schoolbook.{trinomial}
-use Rattle.extensions.proofs.Tables.{table_conjugation}
-use Rattle.extensions.proofs.Tuples.{vars, solves}
+use Rattle.std.proofs.Common.{◌≡◌, [], ◌∷◌, ap, ◌∙◌}
+use Rattle.algebra.specs.Expr.{var, ◌⊞◌, ⊟, exprs, same, among}
+use Rattle.extensions.proofs.Tuples.{solves}
 use Rattle.trinomial.specs.Reduce.{reduced}
-use Rattle.trinomial.specs.Rows.{rows}
 use Rattle.trinomial.proofs.arithmetic.reduce.Goals as goal
 
 pub returns : goal.returns

@@ -1,4 +1,4 @@
-use Rattle.std.proofs.Common.{◌≡◌, ◌+◌, ◌%◌, sym, refl, ap, ◌∙◌, add-one, arith}
+use Rattle.std.proofs.Common.{◌≡◌, ◌%◌, sym, refl, ap, ◌∙◌, add-one, arith}
 use Rattle.extensions.specs.Conjugates.{repeated, table_frobenius}
 use Rattle.extensions.proofs.Periods.{repeated_modulo}
 use Rattle.quintic.specs.Quintuples.{quintuple}
