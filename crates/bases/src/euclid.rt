@@ -3,7 +3,9 @@ ghost use Rattle.std.specs.Prelude.{◌≡◌, ℕ, ◌*◌, ◌%◌, ◌^◌, �
 
 // The number below m that times a leaves 1 modulo m, by the extended Euclidean algorithm; none where no number does.
 pub(crate) fn inverse_modulo(m: u64, a: u64) -> Option<u64>
-    requires { (2 ≤ m) × ((m < 2 ^ 31) × (a < 2 ^ 31)) }
+    requires low { 2 ≤ m }
+    requires high { m < 2 ^ 31 }
+    requires small { a < 2 ^ 31 }
     ensures { elim result [ Some t ↦ (t < m) × ((a * t) % m ≡ 1) | None ↦ ((x : ℕ) → (a * x) % m ≢ 1) ] }
 {
     let mut r0 = m;

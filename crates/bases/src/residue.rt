@@ -22,6 +22,8 @@ pub struct Residue<M> {
 }
 
 impl<M: Copy> Clone for Residue<M> {
+    ghost is_clone = { λ x y. y ≡ x };
+
     ghost is_infallible = { λ _. ⊤ };
 
     fn clone(&self) -> Result<Residue<M>, AllocError> {

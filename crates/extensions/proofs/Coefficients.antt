@@ -6,7 +6,7 @@ use Rattle.algebra.specs.Ring.{Ops}
 use Rattle.extensions.specs.Conjugates.{scaled}
 use Rattle.extensions.specs.Tuples.{Tuple, entries, tabulate, each, fill}
 use Rattle.extensions.proofs.Natural.{entries-each, entries-length}
-use Rattle.extensions.proofs.Tuples.{get_d_tabulate, tuple_same}
+use Rattle.extensions.proofs.Tuples.{get_or-tabulate, tuple_same}
 
 -- tuples with equal entries are equal
 pub entries_injective : {A : Type 0} (n : ℕ) (s t : Tuple n A) → entries n s ≡ entries n t → s ≡ t
@@ -18,7 +18,7 @@ entries_injective {A} (suc n) s t e =
 
 -- a tuple whose coefficients are all known
 pub tabulated : {A : Type 0} (n : ℕ) (f : ℕ → A) (t : Tuple n A) (z : A) → ((j : ℕ) → j < n → get_or (entries n t) j z ≡ f j) → t ≡ tabulate n f
-tabulated n f t z h = tuple_same n t (tabulate n f) z (λ j l. h j l ∙ sym (get_d_tabulate n f j z l))
+tabulated n f t z h = tuple_same n t (tabulate n f) z (λ j l. h j l ∙ sym (get_or-tabulate n f j z l))
 
 module _ {S E : Type 0} (m : S → E) (z : E) where
   -- what the coefficient at a place means, z beyond the last

@@ -9,7 +9,7 @@ use Rattle.algebra.proofs.Units.{unit_cancel}
 use Rattle.extensions.specs.Tuples.{Tuple, entries, tabulate, both, fill}
 use Rattle.extensions.specs.Schoolbook.{sum_to, coefficient, binomial}
 use Rattle.extensions.specs.Conjugates.{repeated, embed, Conjugation, RootLaw, root_frobenius_map}
-use Rattle.extensions.proofs.Tuples.{get_d_tabulate, tuple_same}
+use Rattle.extensions.proofs.Tuples.{get_or-tabulate, tuple_same}
 
 sum_to_same : {A : Type 0} (o : Ops A) (f g : ℕ → A) (k : ℕ) → ((i : ℕ) → i ≤ k → f i ≡ g i) → sum_to o f k ≡ sum_to o g k
 sum_to_same o f g N.zero h = h 0 (omega arith)
@@ -63,13 +63,13 @@ module _ {A : Type 0} (o : Ops A) (L : Laws o) (z : A) where
         tuple_same n (φ n (binomial n o w a b)) (binomial n o w (φ n a) (φ n b)) 𝟘
         (λ i l.
         image_at n (binomial n o w a b) i
-        ∙ ap (λ t. t ⊗ power o z i) (get_d_tabulate n (λ k. c k ⊕ w ⊗ c (k + n)) i 𝟘 l)
+        ∙ ap (λ t. t ⊗ power o z i) (get_or-tabulate n (λ k. c k ⊕ w ⊗ c (k + n)) i 𝟘 l)
         ∙ R.add-mul o L (c i) (w ⊗ c (i + n)) (power o z i)
         ∙ ap₂ ◌⊕◌ (sym (image_coefficient n a b i))
         (L.mul_assoc w (c (i + n)) (power o z i)
         ∙ ap (λ t. w ⊗ (c (i + n) ⊗ t)) (sym (P.power-add o L z i n ∙ ap (λ t. power o z i ⊗ t) law.root ∙ L.mul-one (power o z i)))
         ∙ ap (λ t. w ⊗ t) (sym (image_coefficient n a b (i + n))))
-        ∙ sym (get_d_tabulate n (λ k. coefficient o (entries n (φ n a)) (entries n (φ n b)) k ⊕ w ⊗ coefficient o (entries n (φ n a)) (entries n (φ n b)) (k + n)) i 𝟘 l))
+        ∙ sym (get_or-tabulate n (λ k. coefficient o (entries n (φ n a)) (entries n (φ n b)) k ⊕ w ⊗ coefficient o (entries n (φ n a)) (entries n (φ n b)) (k + n)) i 𝟘 l))
 
     -- the degree is a period
     pub root_period : (a : Tuple n A) → repeated (φ n) n a ≡ a

@@ -24,10 +24,10 @@ module _ {A : Type 0} (f : A → A → A) where
   both-each z g h (suc n) s = λ i. (h s.0 i, both-each z g h n s.1 i)
 
 -- the coefficients of a tabulated tuple, zeros beyond the last
-pub get_d_tabulate : {A : Type 0} (n : ℕ) (f : ℕ → A) (i : ℕ) (z : A) → i < n → get_or (entries n (tabulate n f)) i z ≡ f i
-get_d_tabulate N.zero f i z h = absurd (omega arith)
-get_d_tabulate (suc n) f N.zero z h = refl
-get_d_tabulate (suc n) f (suc i) z h = get_d_tabulate n (λ j. f (suc j)) i z (omega arith)
+pub get_or-tabulate : {A : Type 0} (n : ℕ) (f : ℕ → A) (i : ℕ) (z : A) → i < n → get_or (entries n (tabulate n f)) i z ≡ f i
+get_or-tabulate N.zero f i z h = absurd (omega arith)
+get_or-tabulate (suc n) f N.zero z h = refl
+get_or-tabulate (suc n) f (suc i) z h = get_or-tabulate n (λ j. f (suc j)) i z (omega arith)
 
 -- tuples with equal coefficients are equal
 pub tuple_same : {A : Type 0} (n : ℕ) (s t : Tuple n A) (z : A) → ((i : ℕ) → i < n → get_or (entries n s) i z ≡ get_or (entries n t) i z) → s ≡ t

@@ -1,5 +1,5 @@
-// Extensions of number systems: what they are, and what holds of all of them. The functions do nothing when they run; their contracts are theorems over every
-// commutative ring on the type `A`. The code of the extensions stands in crates above this one.
+// Extensions of number systems: what they are, what holds of all of them, and the functions that all of them have. The functions of this file do nothing when
+// they run; their contracts are theorems over every commutative ring on the type `A`. The code of the single extensions stands in crates above this one.
 #![tactic(auto)]
 
 pub mod below;

@@ -22,7 +22,8 @@ fn check_limit<S: System>(entries: &[u64]) -> Result<(), Refusal>
 
 // The figure at x of a sheet with these entries.
 fn figure_at<S: System>(x: S, entries: &[u64]) -> Result<Figure<S>, Refusal>
-    requires { (Below S.sys.limit entries.now) × (length entries.now ≤ most) }
+    requires below { Below S.sys.limit entries.now }
+    requires fits { length entries.now ≤ most }
     ensures { elim result [ Ok f ↦ IsUnit S.sys.ops (S.mean x) × (f.element ≡ x) × (f.count ≡ length entries.now) × (S.mean f.sum ≡ sum_of S.sys (S.mean x) entries.now) | Err q ↦ (q ≡ Refusal.NoInverse) × NoInverse S.sys.ops (S.mean x) ] }
 {
     let point = draw(x)?;

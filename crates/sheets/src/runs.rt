@@ -20,7 +20,8 @@ pub struct Run<S: System> {
 
 // Makes the calls one after another, and puts down the answer to each.
 fn play<S: System>(reading: &mut Reading<S>, calls: &[Call], out: &mut [Answer<S>])
-    requires { (Sound S.sys S.mean reading.old) × (length out.old ≡ length calls.now) }
+    requires sound { Sound S.sys S.mean reading.old }
+    requires places { length out.old ≡ length calls.now }
     ensures sound { Sound S.sys S.mean reading.new }
     ensures point { reading.new.element ≡ reading.old.element }
     ensures list { sheet reading.new ≡ after S.sys (sheet reading.old) calls.now }

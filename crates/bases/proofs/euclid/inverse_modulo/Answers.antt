@@ -31,7 +31,7 @@ loop-r1-preserved c =
       omega arith,
       mod-lt _ pos,
       inv.5,
-      euclid_step m c.requires.0 a l.t0 l.t1 l.r0 l.r1 inv.4 inv.5,
+      euclid_step m c.requires.low a l.t0 l.t1 l.r0 l.r1 inv.4 inv.5,
       common_step a m l.r0 l.r1 inv.6,
     )
 
@@ -41,7 +41,7 @@ returns-then-unit c =
     let t0 = c.loop-r1.t0 in
     let inv = c.loop-r1.invariant in
     let last : c.loop-r1.r0 ≡ 1 = search rules in
-    let inverse : (t0 < m) × ((c.args.a * t0) % m ≡ 1) = (inv.2, inv.4 ∙ ap (λ t. t % m) last ∙ mod-eq_of_lt c.requires.0) in
+    let inverse : (t0 < m) × ((c.args.a * t0) % m ≡ 1) = (inv.2, inv.4 ∙ ap (λ t. t % m) last ∙ mod-eq_of_lt c.requires.low) in
     inverse
 
 pub returns-else-unit : goal.returns-else-unit

@@ -33,9 +33,9 @@ returns-in_err-append g c =
     let i = c.loop-i.i in
     let L = c.args.entries.now in
     let r = sheet c.loop-i.reading in
-    let under = below_at s.limit L i c.requires.0 c.loop-i-test.true in
+    let under = below_at s.limit L i c.requires.below c.loop-i-test.true in
     let sized : length r ≡ length (take i L) = ap length c.loop-i.invariant.2 in
-    let room : length r < most = omega (arith, length-take i L, c.requires.1) in
+    let room : length r < most = omega (arith, length-take i L, c.requires.fits) in
     let refused = c.in_err-append.ensures.answer.refused in
     let accepted = append_taken s r (get_or L i 0) under room in
     let z : ◌≡◌ {A = ℕ} 0 1 = cc in

@@ -8,7 +8,7 @@ use Rattle.sheets.proofs.runs.play.Goals as goal
 
 pub loop-i-init : goal.loop-i-init
 unfolding after answers
-loop-i-init g c = (c.requires.0, refl, refl, refl, c.requires.1)
+loop-i-init g c = (c.requires.sound, refl, refl, refl, c.requires.places)
 
 pub loop-i-preserved : goal.loop-i-preserved
 loop-i-preserved g c =

@@ -12,7 +12,7 @@ play-requires g c =
     let o = g.S.System.sys.ops in
     let m = g.S.System.mean in
     let inverts = subst (λ y. Inverts o (m y) (m c.in_ok-point.point.inverse)) (sym drawn.0) drawn.1 in
-    (c.begin-reading.ensures.sound inverts, omega arith)
+    record { sound = c.begin-reading.ensures.sound inverts; places = omega arith }
 
 pub returns-then-cut : goal.returns-then-cut
 returns-then-cut g c = record { inverse = λ same. omega arith; runs = refl; agreement = agreement g.S.System.sys g.met.S.System.lawful }
