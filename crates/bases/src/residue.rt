@@ -1,17 +1,15 @@
 // Residues modulo m.
+ghost use Rattle.std.proofs.Common.{lit≤};
 ghost use Rattle.std.specs.Prelude.{◌≡◌, ◌%◌, ◌^◌, ◌<◌, ◌≤◌, Some, None, ⊤};
 ghost use Rattle.bases.specs.Residues.{residues, res};
 ghost use Rattle.bases.specs.ResiduesLemmas.{residues_lawful};
 
 use crate::euclid::inverse_modulo;
 use crate::modulus::Modulus;
-use numbers::listed::Listed;
+use numbers::listed::{Listed, PrefixListed};
 use numbers::refusal::Refusal;
 use numbers::system::System;
 use std::alloc::AllocError;
-
-// how far lists are shown
-mod prefix_list;
 
 // A residue modulo the m of `M`. It holds any number below 2^31, which means its remainder, so a residue may be held in several ways.
 pub struct Residue<M> {
@@ -164,7 +162,7 @@ impl<M: Modulus> System for Residue<M> {
     }
 }
 
-impl<M: Modulus> Listed for Residue<M> {
+impl<M: Modulus> PrefixListed for Residue<M> {
     fn size() -> usize {
         1
     }
@@ -176,11 +174,15 @@ impl<M: Modulus> Listed for Residue<M> {
         }
     }
 
-    fn number_at(&self, place: usize) -> u64 {
+    fn number_at(&self, place: usize) -> u32 {
         if place == 0 {
-            (self.value % M::modulus()) as u64
+            self.value % M::modulus()
         } else {
             0
         }
     }
+}
+
+impl<M: Modulus> Listed for Residue<M> {
+    ghost whole = { lit≤ tt };
 }

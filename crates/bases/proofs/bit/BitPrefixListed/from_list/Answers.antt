@@ -2,7 +2,7 @@ use Rattle.std.proofs.Common.{◌≡◌, [], ◌∷◌, length, refl, ap, rules}
 use Rattle.bases.specs.Bits.{bits}
 use Rattle.bases.specs.BitsLemmas.{number_multiple}
 use Rattle.bases.proofs.Singles.{from_entry}
-use Rattle.bases.proofs.bit.BitListed.from_list.Goals as goal
+use Rattle.bases.proofs.bit.BitPrefixListed.from_list.Goals as goal
 
 pub returns-in-len1 : goal.returns-in-len1
 returns-in-len1 c =
