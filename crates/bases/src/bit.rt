@@ -114,7 +114,7 @@ impl PrefixListed for Bit {
     }
 
     fn number_at(&self, place: usize) -> u32 {
-        if place == 0 && self.on { 1 } else { 0 }
+        u32::from(place == 0 && self.on)
     }
 }
 

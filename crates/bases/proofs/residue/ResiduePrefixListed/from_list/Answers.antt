@@ -6,7 +6,7 @@ use Rattle.bases.proofs.residue.ResiduePrefixListed.from_list.Goals as goal
 
 pub returns-in-len1 : goal.returns-in-len1
 returns-in-len1 g c =
-    let m = g.M.Modulus.m in
+    let m = g.M.Modulus.MODULUS in
     let low = g.M.Modulus.bounds.low in
     let l = c.args.numbers.now in
     let one : length l ≡ 1 = search rules in
