@@ -4,5 +4,5 @@ use mathlib.Core.HLevel.{is_prop→PathP}
 use native.Mathlib.Bridge.{le_prop}
 use Rattle.bases.specs.declared.residue.Residue.{Residue}
 
-pub residue_path : {D : Type 0} (x y : Residue D) → x.value ≡ y.value → x.mark ≡ y.mark → x ≡ y
-residue_path x y e f = λ i. record { value = e i; mark = f i; small = is_prop→PathP (λ j. e j < 2 ^ 31) (λ j. le_prop) x.small y.small i }
+pub residue_path : {D : Type 0} (x y : Residue D) → x.value ≡ y.value → x ≡ y
+residue_path x y e = λ i. record { value = e i; mark = record {}; small = is_prop→PathP (λ j. e j < 2 ^ 31) (λ j. le_prop) x.small y.small i }

@@ -1,14 +1,12 @@
 // The field of two elements.
+ghost use Rattle.std.proofs.Common.{lit≤};
 ghost use Rattle.std.specs.Prelude.{◌≡◌};
 ghost use Rattle.bases.specs.Bits.{bits};
 ghost use Rattle.bases.specs.BitsLemmas.{bits_lawful};
 
-use numbers::listed::Listed;
+use numbers::listed::{Listed, PrefixListed};
 use numbers::refusal::Refusal;
 use numbers::system::System;
-
-// how far lists are shown
-mod prefix_list;
 
 // An element of the field of two elements: one where it is on, else zero.
 #[derive(Clone, Copy)]
@@ -103,7 +101,7 @@ impl System for Bit {
     }
 }
 
-impl Listed for Bit {
+impl PrefixListed for Bit {
     fn size() -> usize {
         1
     }
@@ -115,7 +113,11 @@ impl Listed for Bit {
         }
     }
 
-    fn number_at(&self, place: usize) -> u64 {
-        if place == 0 && self.on { 1 } else { 0 }
+    fn number_at(&self, place: usize) -> u32 {
+        u32::from(place == 0 && self.on)
     }
+}
+
+impl Listed for Bit {
+    ghost whole = { lit≤ tt };
 }

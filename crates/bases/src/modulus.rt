@@ -3,17 +3,15 @@ ghost use Rattle.std.proofs.Common.{lit≤, lit<};
 ghost use Rattle.std.specs.Prelude.{◌≡◌, ℕ};
 ghost use Rattle.bases.specs.Bounds.{Bounds};
 
-// A type that stands for a modulus m, from 2 to 2^31 − 1. A residue holds its default value as a mark, so it is best a unit struct, which takes no room.
-pub trait Modulus: Copy + Default {
-    // The modulus.
-    ghost m: { ℕ };
+// A type that stands for a modulus m, from 2 to 2^31 − 1.
+pub trait Modulus {
+    // The modulus m.
+    const MODULUS: u32;
+
+    ghost MODULUS: { ℕ };
 
     // It is in range.
-    ghost bounds: { Bounds m };
-
-    // The modulus m.
-    fn modulus() -> u32
-        ensures { result ≡ m };
+    ghost bounds: { Bounds MODULUS };
 }
 
 // The prime 2^31 − 2^24 + 1.
@@ -21,13 +19,11 @@ pub trait Modulus: Copy + Default {
 pub struct KoalaBear;
 
 impl Modulus for KoalaBear {
-    ghost m = { 2130706433 };
+    const MODULUS: u32 = 2_130_706_433;
+
+    ghost MODULUS = { 2130706433 };
 
     ghost bounds = { record { low = lit≤ tt; high = lit< tt } };
-
-    fn modulus() -> u32 {
-        2_130_706_433
-    }
 }
 
 // The prime 2^31 − 1.
@@ -35,13 +31,11 @@ impl Modulus for KoalaBear {
 pub struct Mersenne31;
 
 impl Modulus for Mersenne31 {
-    ghost m = { 2147483647 };
+    const MODULUS: u32 = 2_147_483_647;
+
+    ghost MODULUS = { 2147483647 };
 
     ghost bounds = { record { low = lit≤ tt; high = lit< tt } };
-
-    fn modulus() -> u32 {
-        2_147_483_647
-    }
 }
 
 // The prime 2^31 − 2^27 + 1.
@@ -49,13 +43,11 @@ impl Modulus for Mersenne31 {
 pub struct BabyBear;
 
 impl Modulus for BabyBear {
-    ghost m = { 2013265921 };
+    const MODULUS: u32 = 2_013_265_921;
+
+    ghost MODULUS = { 2013265921 };
 
     ghost bounds = { record { low = lit≤ tt; high = lit< tt } };
-
-    fn modulus() -> u32 {
-        2_013_265_921
-    }
 }
 
 // The prime 11.
@@ -63,11 +55,9 @@ impl Modulus for BabyBear {
 pub struct Eleven;
 
 impl Modulus for Eleven {
-    ghost m = { 11 };
+    const MODULUS: u32 = 11;
+
+    ghost MODULUS = { 11 };
 
     ghost bounds = { record { low = lit≤ tt; high = lit< tt } };
-
-    fn modulus() -> u32 {
-        11u32
-    }
 }

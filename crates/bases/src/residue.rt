@@ -1,27 +1,27 @@
 // Residues modulo m.
+ghost use Rattle.std.proofs.Common.{lit≤};
 ghost use Rattle.std.specs.Prelude.{◌≡◌, ◌%◌, ◌^◌, ◌<◌, ◌≤◌, Some, None, ⊤};
 ghost use Rattle.bases.specs.Residues.{residues, res};
 ghost use Rattle.bases.specs.ResiduesLemmas.{residues_lawful};
 
 use crate::euclid::inverse_modulo;
 use crate::modulus::Modulus;
-use numbers::listed::Listed;
+use numbers::listed::{Listed, PrefixListed};
 use numbers::refusal::Refusal;
 use numbers::system::System;
 use std::alloc::AllocError;
-
-// how far lists are shown
-mod prefix_list;
+use std::marker::PhantomData;
 
 // A residue modulo the m of `M`. It holds any number below 2^31, which means its remainder, so a residue may be held in several ways.
 pub struct Residue<M> {
     value: u32,
     // says which modulus; it takes no room
-    mark: M,
+    mark: PhantomData<M>,
     ghost small: { value < 2 ^ 31 },
 }
 
-impl<M: Copy> Clone for Residue<M> {
+// Clone is not derived, as it cannot be beside a ghost field, by `derive` or by `derive_where`.
+impl<M> Clone for Residue<M> {
     ghost is_clone = { λ x y. y ≡ x };
 
     ghost is_infallible = { λ _. ⊤ };
@@ -31,7 +31,7 @@ impl<M: Copy> Clone for Residue<M> {
     }
 }
 
-impl<M: Copy> Copy for Residue<M> {}
+impl<M> Copy for Residue<M> {}
 
 impl<M: Modulus> Residue<M> {
     // The residue that holds this value, which is to be below 2^31.
@@ -39,10 +39,7 @@ impl<M: Modulus> Residue<M> {
         ensures { elim result [ Some v ↦ (value < 2 ^ 31) × (v.value ≡ value) | None ↦ 2 ^ 31 ≤ value ] }
     {
         if value < 0x8000_0000 {
-            Some(Residue {
-                value,
-                mark: M::default(),
-            })
+            Some(Self::held(value))
         } else {
             None
         }
@@ -50,65 +47,55 @@ impl<M: Modulus> Residue<M> {
 
     // The residue of any number, which holds its remainder.
     pub fn of(n: u32) -> Residue<M>
-        ensures { result.value ≡ n % M.m }
+        ensures { result.value ≡ n % M.MODULUS }
+    {
+        Self::held(n % M::MODULUS)
+    }
+
+    // The residue that holds this value.
+    fn held(value: u32) -> Residue<M>
+        requires { value < 2 ^ 31 }
+        ensures { result.value ≡ value }
     {
         Residue {
-            value: n % M::modulus(),
-            mark: M::default(),
+            value,
+            mark: PhantomData,
         }
     }
 }
 
 impl<M: Modulus> System for Residue<M> {
-    ghost sys = { residues M.m M.bounds.low };
+    ghost sys = { residues M.MODULUS M.bounds.low };
 
-    ghost mean = { λ a. res M.m M.bounds.low a.value };
+    ghost mean = { λ a. res M.MODULUS M.bounds.low a.value };
 
-    ghost lawful = { residues_lawful M.m M.bounds.low };
+    ghost lawful = { residues_lawful M.MODULUS M.bounds.low };
 
     fn zero() -> Residue<M> {
-        Residue {
-            value: 0,
-            mark: M::default(),
-        }
+        Self::held(0)
     }
 
     fn one() -> Residue<M> {
-        Residue {
-            value: 1,
-            mark: M::default(),
-        }
+        Self::held(1)
     }
 
     fn add(&self, other: &Residue<M>) -> Residue<M> {
-        Residue {
-            value: (self.value + other.value) % M::modulus(),
-            mark: M::default(),
-        }
+        Self::held((self.value + other.value) % M::MODULUS)
     }
 
     fn sub(&self, other: &Residue<M>) -> Residue<M> {
-        let m = M::modulus();
-        Residue {
-            value: (self.value + (m - other.value % m)) % m,
-            mark: M::default(),
-        }
+        let m = M::MODULUS;
+        Self::held((self.value + (m - other.value % m)) % m)
     }
 
     fn neg(&self) -> Residue<M> {
-        let m = M::modulus();
-        Residue {
-            value: m - self.value % m,
-            mark: M::default(),
-        }
+        let m = M::MODULUS;
+        Self::held(m - self.value % m)
     }
 
     fn mul(&self, other: &Residue<M>) -> Residue<M> {
-        let m = M::modulus() as u64;
-        Residue {
-            value: (self.value as u64 * other.value as u64 % m) as u32,
-            mark: M::default(),
-        }
+        let m = M::MODULUS as u64;
+        Self::held((self.value as u64 * other.value as u64 % m) as u32)
     }
 
     fn square(&self) -> Residue<M> {
@@ -125,46 +112,35 @@ impl<M: Modulus> System for Residue<M> {
         a3: &Residue<M>,
         b3: &Residue<M>,
     ) -> Residue<M> {
-        let m = M::modulus() as u64;
+        let m = M::MODULUS as u64;
         let p0 = a0.value as u64 * b0.value as u64 % m;
         let p1 = a1.value as u64 * b1.value as u64 % m;
         let p2 = a2.value as u64 * b2.value as u64 % m;
         let p3 = a3.value as u64 * b3.value as u64 % m;
-        Residue {
-            value: ((p0 + p1 + p2 + p3) % m) as u32,
-            mark: M::default(),
-        }
+        Self::held(((p0 + p1 + p2 + p3) % m) as u32)
     }
 
     fn same(&self, other: &Residue<M>) -> bool {
-        let m = M::modulus();
+        let m = M::MODULUS;
         self.value % m == other.value % m
     }
 
     fn entry(n: u64) -> Result<Residue<M>, Refusal> {
-        let limit = M::modulus() as u64;
+        let limit = M::MODULUS as u64;
         if n < limit {
-            Ok(Residue {
-                value: n as u32,
-                mark: M::default(),
-            })
+            Ok(Self::held(n as u32))
         } else {
             Err(Refusal::OverLimit)
         }
     }
 
     fn inverse(&self) -> Option<Residue<M>> {
-        match inverse_modulo(M::modulus() as u64, self.value as u64) {
-            Some(t) => Some(Residue {
-                value: t as u32,
-                mark: M::default(),
-            }),
-            None => None,
-        }
+        let t = inverse_modulo(M::MODULUS as u64, self.value as u64)?;
+        Some(Self::held(t as u32))
     }
 }
 
-impl<M: Modulus> Listed for Residue<M> {
+impl<M: Modulus> PrefixListed for Residue<M> {
     fn size() -> usize {
         1
     }
@@ -176,11 +152,15 @@ impl<M: Modulus> Listed for Residue<M> {
         }
     }
 
-    fn number_at(&self, place: usize) -> u64 {
+    fn number_at(&self, place: usize) -> u32 {
         if place == 0 {
-            (self.value % M::modulus()) as u64
+            self.value % M::MODULUS
         } else {
             0
         }
     }
+}
+
+impl<M: Modulus> Listed for Residue<M> {
+    ghost whole = { lit≤ tt };
 }

@@ -7,7 +7,7 @@ use crate::command::{Base, Call, Command, Halt};
 use bases::bit::Bit;
 use bases::modulus::{BabyBear, Eleven, KoalaBear, Mersenne31};
 use bases::residue::Residue;
-use numbers::listed::Listed;
+use numbers::listed::{Listed, PrefixListed};
 use numbers::powers;
 use numbers::refusal::Refusal;
 use numbers::system::System;
@@ -63,7 +63,7 @@ fn numbers<S: Listed>(heap: Global, x: &S) -> Result<Vec<u64>, AllocError>
 {
     let mut found = Vec::new(heap);
     for i in 0..S::size() {
-        found.push(x.number_at(i))?;
+        found.push(u64::from(x.number_at(i)))?;
     }
     Ok(found)
 }

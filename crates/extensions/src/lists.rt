@@ -3,7 +3,7 @@ ghost use Rattle.std.specs.Prelude.{◌≡◌, ℕ, min, List, [], ◌∷◌, ta
 ghost use Rattle.numbers.specs.Lists.{Refused};
 
 use crate::extension::Extension;
-use numbers::prefix_listed::PrefixListed;
+use numbers::listed::PrefixListed;
 use numbers::refusal::Refusal;
 
 // The first so many places of a list are shown.

@@ -2,7 +2,7 @@
 ghost use Rattle.std.specs.Prelude.{◌≡◌};
 ghost use Rattle.figures.specs.Rows.{ProductOf, InverseOf};
 
-use numbers::prefix_listed::PrefixListed;
+use numbers::listed::PrefixListed;
 
 // The product of the elements that mean two lists; none where a list is no element.
 pub fn product<S: PrefixListed>(left: &[u64], right: &[u64]) -> Option<S>

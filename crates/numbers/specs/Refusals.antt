@@ -1,5 +1,5 @@
 -- The eight refusals: the number that a host call answers, and the word that a person reads.
-use Rattle.std.specs.Prelude.{ℕ, List, codes}
+use Rattle.std.specs.Prelude.{ℕ, List, ◌++◌, codes, decimal}
 use Rattle.numbers.specs.declared.refusal.Refusal.{Refusal}
 use Rattle.numbers.specs.declared.refusal.Refusal.TheVariants.{StrangeSystem, CutList, OverLimit, NoInverse, NoConjugates, FullSheet, EmptySheet, NoSuchPlace}
 
@@ -22,3 +22,7 @@ word_of NoConjugates = codes "no conjugates"
 word_of FullSheet = codes "full sheet"
 word_of EmptySheet = codes "empty sheet"
 word_of NoSuchPlace = codes "no such place"
+
+-- the refusal as it is printed, by its number and its word
+abbrev pub text_of : Refusal → List ℕ
+text_of e = codes "refusal " ++ (decimal (number_of e) ++ (codes " (" ++ (word_of e ++ codes ")")))

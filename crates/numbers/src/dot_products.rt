@@ -1,5 +1,8 @@
 // Sums of a fixed number of products, built on the sum of four. The sums of more than four are joined as trees are, so that no addition waits for all
 // the others.
+// There is a function for each size and not one for all. Arrays of N elements would ask of a caller that N elements take a bounded room, which it cannot
+// know; arrays of N references, and lists of pairs in which a caller's own product stands beside an operand, are not covered by the borrow checker;
+// and the lengths of two lists of references could differ.
 ghost use Rattle.std.specs.Prelude.{◌≡◌, List, [], ◌∷◌};
 ghost use Rattle.algebra.specs.Ring.{dot};
 

@@ -32,8 +32,6 @@ pub fn product<S: System>(elements: &[S]) -> S
 pub fn div<S: System>(a: &S, b: &S) -> Result<S, Refusal>
     ensures { elim result [ Ok q ↦ ((c : S.sys.Elem) → Inverts S.sys.ops (S.mean b.now) c → S.mean q ≡ S.sys.ops.mul (S.mean a.now) c) × (S.sys.ops.mul (S.mean q) (S.mean b.now) ≡ S.mean a.now) | Err e ↦ NoInverse S.sys.ops (S.mean b.now) × (e ≡ Refusal.NoInverse) ] }
 {
-    let Some(inverse) = b.inverse() else {
-        return Err(Refusal::NoInverse);
-    };
+    let inverse = b.inverse().ok_or(Refusal::NoInverse)?;
     Ok(a.mul(&inverse))
 }

@@ -5,6 +5,5 @@ pub mod dot_products;
 pub mod folds;
 pub mod listed;
 pub mod powers;
-pub mod prefix_listed;
 pub mod refusal;
 pub mod system;

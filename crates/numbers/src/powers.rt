@@ -80,8 +80,8 @@ impl<S: System> Powers<S> {
         ensures current { S.mean self.new.current ≡ S.sys.ops.mul (S.mean self.old.current) (power S.sys.ops (S.mean self.old.base) (length out.old)) }
         ensures base { self.new.base ≡ self.old.base }
     {
-        for i in 0..out.len() {
-            out[i] = self.next();
+        for place in out.iter_mut() {
+            *place = self.next();
         }
     }
 }

@@ -1,6 +1,8 @@
 // The refusals: what a call answers in place of a result.
-ghost use Rattle.std.specs.Prelude.{◌≡◌};
-ghost use Rattle.numbers.specs.Refusals.{number_of, word_of};
+ghost use Rattle.std.specs.Prelude.{◌≡◌, Some};
+ghost use Rattle.numbers.specs.Refusals.{number_of, word_of, text_of};
+
+use std::fmt;
 
 #[derive(Clone, Copy, PartialEq, Eq, Debug)]
 pub enum Refusal {
@@ -53,5 +55,16 @@ impl Refusal {
             Refusal::EmptySheet => "empty sheet",
             Refusal::NoSuchPlace => "no such place",
         }
+    }
+}
+
+// The refusal as it is printed, as in `refusal 4 (no inverse)`.
+impl fmt::Display for Refusal {
+    ghost output = { λ e. Some (text_of e) };
+
+    fn fmt<W: fmt::Write>(&self, f: &mut fmt::Formatter<W>) -> fmt::Result {
+        let number = self.number();
+        let word = self.word();
+        write!(f, "refusal {number} ({word})")
     }
 }

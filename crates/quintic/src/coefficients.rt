@@ -9,7 +9,7 @@ ghost use Rattle.extensions.proofs.Products.{quintic_passes};
 use crate::quintic::{Quintic, QuinticConstants};
 use extensions::extension::Extension;
 use extensions::lists::{extension_from_list, extension_number_at, extension_size};
-use numbers::prefix_listed::PrefixListed;
+use numbers::listed::PrefixListed;
 use numbers::refusal::Refusal;
 use numbers::system::System;
 

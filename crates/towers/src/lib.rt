@@ -18,13 +18,11 @@ mod tests;
 pub struct Twelve;
 
 impl Modulus for Twelve {
-    ghost m = { 12 };
+    const MODULUS: u32 = 12;
+
+    ghost MODULUS = { 12 };
 
     ghost bounds = { record { low = lit≤ tt; high = lit< tt } };
-
-    fn modulus() -> u32 {
-        12
-    }
 }
 
 // X³ = 5

@@ -1,6 +1,6 @@
 // Inverses in the tower: answered where there is one, and refused elsewhere, at zero divisors too. The figures were worked out apart from this code.
 use crate::Tower;
-use numbers::prefix_listed::PrefixListed;
+use numbers::listed::PrefixListed;
 use numbers::system::System;
 use std::process::Abort;
 use std::test::Fail;

@@ -1,4 +1,4 @@
-use Rattle.std.proofs.Common.{refl, lit<}
+use Rattle.std.proofs.Common.{lit<}
 use Rattle.bases.specs.declared.residue.Residue.{Residue}
 use Rattle.bases.proofs.Held.{residue_path}
 use Rattle.towers.specs.declared.Twelve.{Twelve}
@@ -10,9 +10,9 @@ returns c =
     let unit : Residue Twelve = record { value = 1; mark = record {}; small = lit< tt } in
     λ i. record {
       value = record {
-        c0 = residue_path c.of.result none c.of.ensures refl i;
-        c1 = residue_path c.of-2.result unit c.of-2.ensures refl i;
-        c2 = residue_path c.of-3.result none c.of-3.ensures refl i;
+        c0 = residue_path c.of.result none c.of.ensures i;
+        c1 = residue_path c.of-2.result unit c.of-2.ensures i;
+        c2 = residue_path c.of-3.result none c.of-3.ensures i;
       };
       mark = record {};
     }

@@ -1,7 +1,10 @@
+use Rattle.std.proofs.Common.{ap, ◌∙◌}
+use Rattle.bases.specs.Residues.{res}
 use Rattle.bases.proofs.Remainders.{reduced_add}
 use Rattle.bases.proofs.residue.ResidueSystem.add.Goals as goal
 
 pub returns : goal.returns
 returns g c =
-    reduced_add g.M.Modulus.m g.M.Modulus.bounds.low c.modulus.result c.modulus.ensures
+    ap (res g.M.Modulus.MODULUS g.M.Modulus.bounds.low) c.held.ensures
+    ∙ reduced_add g.M.Modulus.MODULUS g.M.Modulus.bounds.low c.MODULUS.result c.MODULUS.ensures
     c.args.self.now.value c.args.other.now.value

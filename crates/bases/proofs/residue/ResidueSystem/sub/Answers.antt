@@ -1,7 +1,10 @@
+use Rattle.std.proofs.Common.{ap, ◌∙◌}
+use Rattle.bases.specs.Residues.{res}
 use Rattle.bases.proofs.Remainders.{reduced_sub}
 use Rattle.bases.proofs.residue.ResidueSystem.sub.Goals as goal
 
 pub returns : goal.returns
 returns g c =
-    reduced_sub g.M.Modulus.m g.M.Modulus.bounds.low c.modulus-m.result c.modulus-m.ensures
+    ap (res g.M.Modulus.MODULUS g.M.Modulus.bounds.low) c.held.ensures
+    ∙ reduced_sub g.M.Modulus.MODULUS g.M.Modulus.bounds.low c.MODULUS-m.result c.MODULUS-m.ensures
     c.args.self.now.value c.args.other.now.value

@@ -1,4 +1,3 @@
-use mathlib.Core.Path.{refl}
 use lib.Dec.{lit<}
 use Rattle.bases.specs.declared.modulus.Mersenne31.{Mersenne31}
 use Rattle.bases.specs.declared.residue.Residue.{Residue}
@@ -10,6 +9,6 @@ returns c =
     let low : Residue Mersenne31 = record { value = 0; mark = record {}; small = lit< tt } in
     let high : Residue Mersenne31 = record { value = 5; mark = record {}; small = lit< tt } in
     λ i. record {
-      value = record { c0 = residue_path c.of.result low c.of.ensures refl i; c1 = residue_path c.of-2.result high c.of-2.ensures refl i };
+      value = record { c0 = residue_path c.of.result low c.of.ensures i; c1 = residue_path c.of-2.result high c.of-2.ensures i };
       mark = record {};
     }

@@ -1,4 +1,4 @@
-use mathlib.Core.Path.{refl, sym, subst}
+use mathlib.Core.Path.{sym, subst}
 use lib.Dec.{lit≤}
 use Rattle.bases.specs.Residues.{res, res_ops}
 use Rattle.extensions.specs.Conjugates.{RootLaw}
@@ -8,6 +8,6 @@ use Rattle.catalog.proofs.constants.ThirtyOneQuinticConstantsResidueBabyBear.z.G
 
 pub returns : goal.returns
 returns c = record {
-  value = residue_path c.of.result _ c.of.ensures refl;
+  value = residue_path c.of.result _ c.of.ensures;
   root = subst (λ n. RootLaw (res_ops 2013265921 (lit≤ tt)) 5 (res 2013265921 (lit≤ tt) n)) (sym c.of.ensures) baby_bear_root;
 }

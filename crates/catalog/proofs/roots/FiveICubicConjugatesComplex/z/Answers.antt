@@ -1,4 +1,4 @@
-use mathlib.Core.Path.{◌≡◌, refl, sym, subst}
+use mathlib.Core.Path.{◌≡◌, sym, subst}
 use lib.Dec.{lit<, lit≤}
 use Rattle.bases.specs.Residues.{res}
 use Rattle.bases.specs.declared.modulus.Mersenne31.{Mersenne31}
@@ -17,7 +17,7 @@ returns c =
     let high : Residue Mersenne31 = record { value = 0; mark = record {}; small = lit< tt } in
     let made : Pair (Residue Mersenne31) = record { c0 = c.of.result; c1 = c.of-2.result } in
     let written : Pair (Residue Mersenne31) = record { c0 = low; c1 = high } in
-    let same : made ≡ written = λ i. record { c0 = residue_path c.of.result low c.of.ensures refl i; c1 = residue_path c.of-2.result high c.of-2.ensures refl i } in
+    let same : made ≡ written = λ i. record { c0 = residue_path c.of.result low c.of.ensures i; c1 = residue_path c.of-2.result high c.of-2.ensures i } in
     record {
       value = λ i. record { value = same i; mark = record {} };
       root = subst (λ (p : Pair (Residue Mersenne31)). RootLaw system_4.ops 3 (pair (λ (a : Residue Mersenne31). res 2147483647 (lit≤ tt) a.value) p)) (sym same) complex_cubic_root;

@@ -1,4 +1,4 @@
-use mathlib.Core.Path.{refl, sym, subst}
+use mathlib.Core.Path.{sym, subst}
 use lib.Dec.{lit≤}
 use Rattle.bases.specs.Residues.{res, res_ops}
 use Rattle.extensions.specs.Conjugates.{RootLaw}
@@ -8,6 +8,6 @@ use Rattle.catalog.proofs.roots.MinusOneQuadraticConjugatesResidueMersenne31.z.G
 
 pub returns : goal.returns
 returns c = record {
-  value = residue_path c.of.result _ c.of.ensures refl;
+  value = residue_path c.of.result _ c.of.ensures;
   root = subst (λ n. RootLaw (res_ops 2147483647 (lit≤ tt)) 2 (res 2147483647 (lit≤ tt) n)) (sym c.of.ensures) complex_root;
 }

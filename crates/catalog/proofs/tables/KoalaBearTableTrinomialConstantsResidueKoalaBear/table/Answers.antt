@@ -1,4 +1,4 @@
-use mathlib.Core.Path.{◌≡◌, refl, sym, subst}
+use mathlib.Core.Path.{◌≡◌, sym, subst}
 use lib.Dec.{lit<, lit≤}
 use Rattle.bases.specs.declared.modulus.KoalaBear.{KoalaBear}
 use Rattle.bases.specs.declared.residue.Residue.{Residue}
@@ -35,10 +35,10 @@ returns c =
     let made : Rows (Residue KoalaBear) = record { t1 = c.koala_bear_row.result; t2 = c.koala_bear_row-2.result; t3 = c.koala_bear_row-3.result; t4 = c.koala_bear_row-4.result } in
     let table : Rows (Residue KoalaBear) = record { t1 = record { c0 = lit00; c1 = lit01; c2 = lit02; c3 = lit03; c4 = lit04 }; t2 = record { c0 = lit10; c1 = lit11; c2 = lit12; c3 = lit13; c4 = lit14 }; t3 = record { c0 = lit20; c1 = lit21; c2 = lit22; c3 = lit23; c4 = lit24 }; t4 = record { c0 = lit30; c1 = lit31; c2 = lit32; c3 = lit33; c4 = lit34 } } in
     let same : made ≡ table = λ i. record {
-      t1 = record { c0 = residue_path c.koala_bear_row.result.c0 lit00 c.koala_bear_row.ensures.c0 refl i; c1 = residue_path c.koala_bear_row.result.c1 lit01 c.koala_bear_row.ensures.c1 refl i; c2 = residue_path c.koala_bear_row.result.c2 lit02 c.koala_bear_row.ensures.c2 refl i; c3 = residue_path c.koala_bear_row.result.c3 lit03 c.koala_bear_row.ensures.c3 refl i; c4 = residue_path c.koala_bear_row.result.c4 lit04 c.koala_bear_row.ensures.c4 refl i };
-      t2 = record { c0 = residue_path c.koala_bear_row-2.result.c0 lit10 c.koala_bear_row-2.ensures.c0 refl i; c1 = residue_path c.koala_bear_row-2.result.c1 lit11 c.koala_bear_row-2.ensures.c1 refl i; c2 = residue_path c.koala_bear_row-2.result.c2 lit12 c.koala_bear_row-2.ensures.c2 refl i; c3 = residue_path c.koala_bear_row-2.result.c3 lit13 c.koala_bear_row-2.ensures.c3 refl i; c4 = residue_path c.koala_bear_row-2.result.c4 lit14 c.koala_bear_row-2.ensures.c4 refl i };
-      t3 = record { c0 = residue_path c.koala_bear_row-3.result.c0 lit20 c.koala_bear_row-3.ensures.c0 refl i; c1 = residue_path c.koala_bear_row-3.result.c1 lit21 c.koala_bear_row-3.ensures.c1 refl i; c2 = residue_path c.koala_bear_row-3.result.c2 lit22 c.koala_bear_row-3.ensures.c2 refl i; c3 = residue_path c.koala_bear_row-3.result.c3 lit23 c.koala_bear_row-3.ensures.c3 refl i; c4 = residue_path c.koala_bear_row-3.result.c4 lit24 c.koala_bear_row-3.ensures.c4 refl i };
-      t4 = record { c0 = residue_path c.koala_bear_row-4.result.c0 lit30 c.koala_bear_row-4.ensures.c0 refl i; c1 = residue_path c.koala_bear_row-4.result.c1 lit31 c.koala_bear_row-4.ensures.c1 refl i; c2 = residue_path c.koala_bear_row-4.result.c2 lit32 c.koala_bear_row-4.ensures.c2 refl i; c3 = residue_path c.koala_bear_row-4.result.c3 lit33 c.koala_bear_row-4.ensures.c3 refl i; c4 = residue_path c.koala_bear_row-4.result.c4 lit34 c.koala_bear_row-4.ensures.c4 refl i };
+      t1 = record { c0 = residue_path c.koala_bear_row.result.c0 lit00 c.koala_bear_row.ensures.c0 i; c1 = residue_path c.koala_bear_row.result.c1 lit01 c.koala_bear_row.ensures.c1 i; c2 = residue_path c.koala_bear_row.result.c2 lit02 c.koala_bear_row.ensures.c2 i; c3 = residue_path c.koala_bear_row.result.c3 lit03 c.koala_bear_row.ensures.c3 i; c4 = residue_path c.koala_bear_row.result.c4 lit04 c.koala_bear_row.ensures.c4 i };
+      t2 = record { c0 = residue_path c.koala_bear_row-2.result.c0 lit10 c.koala_bear_row-2.ensures.c0 i; c1 = residue_path c.koala_bear_row-2.result.c1 lit11 c.koala_bear_row-2.ensures.c1 i; c2 = residue_path c.koala_bear_row-2.result.c2 lit12 c.koala_bear_row-2.ensures.c2 i; c3 = residue_path c.koala_bear_row-2.result.c3 lit13 c.koala_bear_row-2.ensures.c3 i; c4 = residue_path c.koala_bear_row-2.result.c4 lit14 c.koala_bear_row-2.ensures.c4 i };
+      t3 = record { c0 = residue_path c.koala_bear_row-3.result.c0 lit20 c.koala_bear_row-3.ensures.c0 i; c1 = residue_path c.koala_bear_row-3.result.c1 lit21 c.koala_bear_row-3.ensures.c1 i; c2 = residue_path c.koala_bear_row-3.result.c2 lit22 c.koala_bear_row-3.ensures.c2 i; c3 = residue_path c.koala_bear_row-3.result.c3 lit23 c.koala_bear_row-3.ensures.c3 i; c4 = residue_path c.koala_bear_row-3.result.c4 lit24 c.koala_bear_row-3.ensures.c4 i };
+      t4 = record { c0 = residue_path c.koala_bear_row-4.result.c0 lit30 c.koala_bear_row-4.ensures.c0 i; c1 = residue_path c.koala_bear_row-4.result.c1 lit31 c.koala_bear_row-4.ensures.c1 i; c2 = residue_path c.koala_bear_row-4.result.c2 lit32 c.koala_bear_row-4.ensures.c2 i; c3 = residue_path c.koala_bear_row-4.result.c3 lit33 c.koala_bear_row-4.ensures.c3 i; c4 = residue_path c.koala_bear_row-4.result.c4 lit34 c.koala_bear_row-4.ensures.c4 i };
     } in
     let Law : Rows (Residue KoalaBear) → Type 0 = λ t. TableLaw (res_ops 2130706433 (lit≤ tt)) (rows (λ a. res 2130706433 (lit≤ tt) a.value) t) in
     record {
