@@ -30,24 +30,22 @@ fn answer<S: Listed>(call: &Call<Vec<u64>>) -> Result<S, Refusal>
 {
     match call {
         Call::Sum(l, k) => {
-            let (a, b) = two::<S>(l.as_slice(), k.as_slice())?;
+            let (a, b) = two::<S>(l, k)?;
             Ok(a.add(&b))
         }
         Call::Difference(l, k) => {
-            let (a, b) = two::<S>(l.as_slice(), k.as_slice())?;
+            let (a, b) = two::<S>(l, k)?;
             Ok(a.sub(&b))
         }
-        Call::Negative(l) => Ok(S::from_list(l.as_slice())?.neg()),
+        Call::Negative(l) => Ok(S::from_list(l)?.neg()),
         Call::Multiply(l, k) => {
-            let (a, b) = two::<S>(l.as_slice(), k.as_slice())?;
+            let (a, b) = two::<S>(l, k)?;
             Ok(a.mul(&b))
         }
-        Call::Square(l) => Ok(S::from_list(l.as_slice())?.square()),
-        Call::Power(l, exponent) => Ok(powers::exp_u64(&S::from_list(l.as_slice())?, *exponent)),
+        Call::Square(l) => Ok(S::from_list(l)?.square()),
+        Call::Power(l, exponent) => Ok(powers::exp_u64(&S::from_list(l)?, *exponent)),
         Call::Entry(n) => S::entry(*n),
-        Call::Inverse(l) => S::from_list(l.as_slice())?
-            .inverse()
-            .ok_or(Refusal::NoInverse),
+        Call::Inverse(l) => S::from_list(l)?.inverse().ok_or(Refusal::NoInverse),
     }
 }
 

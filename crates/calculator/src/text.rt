@@ -1,6 +1,6 @@
 // Numbers and lists of numbers in a text.
-ghost use Rattle.std.specs.Prelude.{◌≡◌, ℕ, ◌+◌, ◌<◌, ◌≤◌, List, [], ◌∷◌, ◌++◌, map, length, IfOk, vec_items, vec_len, string_bytes};
-ghost use Rattle.calculator.specs.Text.{Found, parts, Number, Numbers, items, Bracketed, Listing, listing};
+ghost use Rattle.std.specs.Prelude.{◌≡◌, ◌<◌, map, IfOk, vec_items};
+ghost use Rattle.calculator.specs.Text.{Found, parts, Number, Numbers, Bracketed, Listing};
 
 use std::alloc::{AllocError, Global};
 
