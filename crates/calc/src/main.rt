@@ -14,8 +14,7 @@ fn run(rt: &HostRuntime) -> anyhow::Result<()> {
             continue;
         }
         let answer = respond(heap, line.as_str())?;
-        let shown = answer.show(heap)?;
-        println!(rt; "{line} = {shown}")?;
+        println!(rt; "{line} = {answer}")?;
         tally.note(&answer);
     }
     let Tally {

@@ -1,3 +1,2 @@
-pub mod Parts
 pub mod Reasons
 pub mod Shown

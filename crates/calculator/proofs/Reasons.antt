@@ -1,5 +1,5 @@
 -- A reason that holds of the words of a line says that no command is written so.
-use Rattle.std.proofs.Common.{◌≡◌, ℕ, ◌+◌, true, false, eqb, ◌⊎◌, List, length, get_or, codes, sym, refl, ap, ◌∙◌, subst, inl, inr, ⊎_elim}
+use Rattle.std.proofs.Common.{◌≡◌, ℕ, ◌+◌, if◌then◌else◌, eqb, ◌⊎◌, List, length, get_or, codes, sym, refl, ap, ◌∙◌, subst, inl, inr, ⊎_elim}
 use Rattle.calculator.specs.Commands.{modulus_text, verb_text, verb_of, operands, Operands, word, Fails, Because, Hindered, Nothing}
 use Rattle.calculator.specs.declared.command.Base.{Base}
 use Rattle.calculator.specs.declared.command.Verb as V
@@ -17,35 +17,14 @@ letter t = get_or t 2 0
 
 by_letter : ℕ → Verb
 by_letter n =
-    elim (eqb n 109) [
-      | true ↦ V.TheVariants.Sum
-      | false ↦
-          elim (eqb n 102) [
-            | true ↦ V.TheVariants.Difference
-            | false ↦
-                elim (eqb n 103) [
-                  | true ↦ V.TheVariants.Negative
-                  | false ↦
-                      elim (eqb n 108) [
-                        | true ↦ V.TheVariants.Multiply
-                        | false ↦
-                            elim (eqb n 117) [
-                              | true ↦ V.TheVariants.Square
-                              | false ↦
-                                  elim (eqb n 119) [
-                                    | true ↦ V.TheVariants.Power
-                                    | false ↦
-                                        elim (eqb n 116) [
-                                          | true ↦ V.TheVariants.Entry
-                                          | false ↦
-                                              V.TheVariants.Inverse
-                                        ]
-                                  ]
-                            ]
-                      ]
-                ]
-          ]
-    ]
+    if eqb n 109 then V.TheVariants.Sum
+    else if eqb n 102 then V.TheVariants.Difference
+    else if eqb n 103 then V.TheVariants.Negative
+    else if eqb n 108 then V.TheVariants.Multiply
+    else if eqb n 117 then V.TheVariants.Square
+    else if eqb n 119 then V.TheVariants.Power
+    else if eqb n 116 then V.TheVariants.Entry
+    else V.TheVariants.Inverse
 
 by_its_letter : (v : Verb) → by_letter (letter (verb_text v)) ≡ v
 unfolding letter by_letter
@@ -86,7 +65,7 @@ fails_reason V.TheVariants.Inverse s t why f = inl f.1
 -- words that are right up to the operands, one of which fails
 pub because_operand : (ws : List (List ℕ)) (b : Base) (v : Verb) → word ws 0 ≡ codes "base" → word ws 1 ≡ modulus_text b → word ws 2 ≡ verb_text v
     → length ws ≡ 3 + operands v → (f : Fault) → Hindered (Fails v (word ws 3) (word ws 4)) f → Hindered (Because ws) f
-because_operand ws b v k m w n NoMemory h = tt
+because_operand ws b v k m w n (NoMemory e) h = tt
 because_operand ws b v k m w n (Unreadable why) h =
     ⊎_elim
     (λ e. subst (Because ws) (sym e) (k, (b, m), (v, w, n, subst (Fails v (word ws 3) (word ws 4)) e h)))
@@ -109,5 +88,5 @@ because_nothing ws NoElement h c w = fails_nothing ws h.2.0 NoElement h.2.1 h.2.
 because_nothing ws NoNumber h c w = fails_nothing ws h.2.0 NoNumber h.2.1 h.2.3 c w
 
 pub hindered_nothing : (ws : List (List ℕ)) (f : Fault) → Hindered (Because ws) f → Hindered (λ why. Because ws why × Nothing ws) f
-hindered_nothing ws NoMemory h = tt
+hindered_nothing ws (NoMemory e) h = tt
 hindered_nothing ws (Unreadable why) h = (h, because_nothing ws why h)

@@ -1,5 +1,5 @@
 -- Which line is which command, and why a line is none.
-use Rattle.std.specs.Prelude.{◌≡◌, ℕ, ◌+◌, ◌⊎◌, List, [], length, codes, ◌≢◌, slice_index_or}
+use Rattle.std.specs.Prelude.{◌≡◌, ℕ, ◌+◌, ◌⊎◌, List, [], length, codes, ◌≢◌, slice_index_or, Result, MatchResult}
 use Rattle.calculator.specs.Text.{Number, Listing}
 use Rattle.calculator.specs.declared.command.Base.{Base}
 use Rattle.calculator.specs.declared.command.Base.TheVariants.{Two, Eleven, BabyBear, KoalaBear, Mersenne31}
@@ -30,6 +30,14 @@ verb_text V.TheVariants.Square = codes "square"
 verb_text V.TheVariants.Power = codes "power"
 verb_text V.TheVariants.Entry = codes "entry"
 verb_text V.TheVariants.Inverse = codes "inverse"
+
+-- the result is the base of this modulus, or it is unknown
+abbrev pub NamesBase : List ℕ → Result Base Reason → Type 0
+NamesBase text r = MatchResult r (λ b. text ≡ modulus_text b) (λ why. (why ≡ UnknownBase) × ((b : Base) → text ≢ modulus_text b))
+
+-- the result is the call of this name, or it is unknown
+abbrev pub NamesVerb : List ℕ → Result Verb Reason → Type 0
+NamesVerb text r = MatchResult r (λ v. text ≡ verb_text v) (λ why. (why ≡ UnknownCall) × ((v : Verb) → text ≢ verb_text v))
 
 -- how many operands the call has
 abbrev pub operands : Verb → ℕ
@@ -113,7 +121,7 @@ reason_text NoNumber = codes "an operand is not a number of at most 64 bits"
 -- where memory did not fail, the reason has the property
 abbrev pub Hindered : (Reason → Type 0) → Fault → Type 0
 Hindered P (Unreadable why) = P why
-Hindered P NoMemory = Unit {0}
+Hindered P (NoMemory e) = Unit {0}
 
 -- no command is written so
 abbrev pub Nothing : List (List ℕ) → Type 0

@@ -79,7 +79,7 @@ GivesList s c l = (x : s.Elem) × Gives s c x × (l ≡ s.list x)
 abbrev pub Worked : {V : Type 0} → (V → List ℕ) → Sys → Call (List ℕ) → Result V Halt → Type 0
 Worked shows s c (Ok v) = GivesList s c (shows v)
 Worked shows s c (Err (H.TheVariants.Refused e)) = Stops s c e
-Worked shows s c (Err H.TheVariants.NoMemory) = (x : s.Elem) × Gives s c x
+Worked shows s c (Err (H.TheVariants.NoMemory e)) = (x : s.Elem) × Gives s c x
 
 -- the number system of a base
 abbrev pub system_of : Base → Sys

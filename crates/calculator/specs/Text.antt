@@ -1,6 +1,6 @@
 -- How numbers, lists and words are written in a line. Text is a list of bytes.
-use Rattle.std.specs.Prelude.{◌≡◌, ℕ, ◌^◌, ◌<◌, ◌≤◌, true, false, List, [], ◌∷◌, ◌++◌, map, length, Some, None, decimal, Option, ◌==◌, slice_index, slice_index_or}
-use Rattle.std.specs.List.{join_with_byte}
+use Rattle.std.specs.Prelude.{◌≡◌, ℕ, ◌^◌, ◌<◌, ◌≤◌, true, List, [], ◌∷◌, ◌++◌, map, length, Some, None, decimal, Option, ◌==◌, slice_index, slice_index_or}
+use Rattle.std.specs.List.{join_with_byte, slice_split}
 use Rattle.std.specs.Str.Parse.{digits_value}
 use Rattle.std.specs.Str.{all_ascii_digits}
 
@@ -9,15 +9,9 @@ abbrev pub Found : {V B : Type 0} → (V → B) → (B → Type 0) → Option V 
 Found {V} {B} shows P (Some v) = P (shows v)
 Found {V} {B} shows P None = (b : B) → P b → ⊥
 
--- one byte more in front of the first part
-abbrev pub onto : ℕ → List (List ℕ) → List (List ℕ)
-onto b [] = (b ∷ []) ∷ []
-onto b (w ∷ ws) = (b ∷ w) ∷ ws
-
 -- the parts of a text between the separators c: one more than there are separators
 abbrev pub parts : ℕ → List ℕ → List (List ℕ)
-parts c [] = [] ∷ []
-parts c (b ∷ bs) = elim (b == c) [ true ↦ [] ∷ parts c bs | false ↦ onto b (parts c bs) ]
+parts c text = slice_split (λ b. b == c) text
 
 -- the words of a line stand between single spaces
 abbrev pub words : List ℕ → List (List ℕ)

@@ -1,12 +1,13 @@
 // What a line can ask for.
 ghost use Rattle.std.specs.Prelude.{◌≡◌};
-ghost use Rattle.calculator.specs.declared.command.Fault.TheVariants.{NoMemory};
+ghost use Rattle.calculator.specs.declared.command.Fault.TheVariants as F;
+ghost use Rattle.calculator.specs.declared.command.Halt.TheVariants as H;
 
 use numbers::refusal::Refusal;
 use std::alloc::AllocError;
 
 // A base, by its modulus.
-#[derive(Clone, Copy)]
+#[derive(Clone, Copy, PartialEq, Eq, Debug)]
 pub enum Base {
     Two,
     Eleven,
@@ -16,7 +17,7 @@ pub enum Base {
 }
 
 // The name of a call.
-#[derive(Clone, Copy)]
+#[derive(Clone, Copy, PartialEq, Eq, Debug)]
 pub enum Verb {
     Sum,
     Difference,
@@ -49,7 +50,7 @@ pub struct Command<L> {
 }
 
 // Why a line cannot be read.
-#[derive(Clone, Copy)]
+#[derive(Clone, Copy, PartialEq, Eq, Debug)]
 pub enum Reason {
     // the first word is not `base`
     NoBase,
@@ -65,24 +66,48 @@ pub enum Reason {
     NoNumber,
 }
 
-// What keeps a line from being a command.
-#[derive(Drop)]
+// What keeps a line from being a command: the error of `parse`.
+#[derive(PartialEq, Eq, Debug, Drop)]
 pub enum Fault {
     Unreadable(Reason),
-    NoMemory,
+    NoMemory(AllocError),
 }
 
-impl From<AllocError> for Fault {
-    ghost from_gives = { λ _ r. r ≡ NoMemory };
+impl From<Reason> for Fault {
+    ghost from_gives = { λ why r. r ≡ F.Unreadable why };
 
-    fn from(_: AllocError) -> Fault {
-        Fault::NoMemory
+    fn from(reason: Reason) -> Fault {
+        Fault::Unreadable(reason)
     }
 }
 
-// What keeps a command from giving a result.
-#[derive(Drop)]
+impl From<AllocError> for Fault {
+    ghost from_gives = { λ e r. r ≡ F.NoMemory e };
+
+    fn from(error: AllocError) -> Fault {
+        Fault::NoMemory(error)
+    }
+}
+
+// What keeps a command from giving a result: the error of `evaluate`.
+#[derive(PartialEq, Eq, Debug, Drop)]
 pub enum Halt {
     Refused(Refusal),
-    NoMemory,
+    NoMemory(AllocError),
+}
+
+impl From<Refusal> for Halt {
+    ghost from_gives = { λ e r. r ≡ H.Refused e };
+
+    fn from(refusal: Refusal) -> Halt {
+        Halt::Refused(refusal)
+    }
+}
+
+impl From<AllocError> for Halt {
+    ghost from_gives = { λ e r. r ≡ H.NoMemory e };
+
+    fn from(error: AllocError) -> Halt {
+        Halt::NoMemory(error)
+    }
 }

@@ -1,5 +1,5 @@
 // From a command to what it gives.
-ghost use Rattle.std.specs.Prelude.{◌≡◌, List, [], ◌∷◌, length, IfOk, Ok, Err, vec_items};
+ghost use Rattle.std.specs.Prelude.{◌≡◌, List, [], ◌∷◌, IfOk, MatchResult, vec_items};
 ghost use Rattle.numbers.specs.Lists.{Refused};
 ghost use Rattle.calculator.specs.Results.{shown, Gives, Stops, Worked, system_of};
 
@@ -15,45 +15,37 @@ use std::alloc::{AllocError, Global};
 
 // The elements that two lists mean. Both lengths are tested before any number is.
 fn two<S: Listed>(left: &[u64], right: &[u64]) -> Result<(S, S), Refusal>
-    ensures { elim result [ Ok p ↦ (S.sys.list (S.mean p.0) ≡ left.now) × (S.sys.list (S.mean p.1) ≡ right.now) | Err e ↦ Refused S.sys (left.now ∷ right.now ∷ []) e ] }
+    ensures { MatchResult result (λ p. (S.sys.list (S.mean p.0) ≡ left.now) × (S.sys.list (S.mean p.1) ≡ right.now)) (Refused S.sys (left.now ∷ right.now ∷ [])) }
 {
     let size = S::size();
     if left.len() != size || right.len() != size {
         return Err(Refusal::CutList);
     }
-    match S::from_list(left) {
-        Err(refusal) => Err(refusal),
-        Ok(a) => match S::from_list(right) {
-            Err(refusal) => Err(refusal),
-            Ok(b) => Ok((a, b)),
-        },
-    }
+    Ok((S::from_list(left)?, S::from_list(right)?))
 }
 
 // What the call gives in the system.
 fn answer<S: Listed>(call: &Call<Vec<u64>>) -> Result<S, Refusal>
-    ensures { elim result [ Ok x ↦ Gives S.sys (shown vec_items call.now) (S.mean x) | Err e ↦ Stops S.sys (shown vec_items call.now) e ] }
+    ensures { MatchResult result (λ x. Gives S.sys (shown vec_items call.now) (S.mean x)) (Stops S.sys (shown vec_items call.now)) }
 {
     match call {
         Call::Sum(l, k) => {
-            let (a, b) = two::<S>(l.as_slice(), k.as_slice())?;
+            let (a, b) = two::<S>(l, k)?;
             Ok(a.add(&b))
         }
         Call::Difference(l, k) => {
-            let (a, b) = two::<S>(l.as_slice(), k.as_slice())?;
+            let (a, b) = two::<S>(l, k)?;
             Ok(a.sub(&b))
         }
-        Call::Negative(l) => Ok(S::from_list(l.as_slice())?.neg()),
+        Call::Negative(l) => Ok(S::from_list(l)?.neg()),
         Call::Multiply(l, k) => {
-            let (a, b) = two::<S>(l.as_slice(), k.as_slice())?;
+            let (a, b) = two::<S>(l, k)?;
             Ok(a.mul(&b))
         }
-        Call::Square(l) => Ok(S::from_list(l.as_slice())?.square()),
-        Call::Power(l, exponent) => Ok(powers::exp_u64(&S::from_list(l.as_slice())?, *exponent)),
+        Call::Square(l) => Ok(S::from_list(l)?.square()),
+        Call::Power(l, exponent) => Ok(powers::exp_u64(&S::from_list(l)?, *exponent)),
         Call::Entry(n) => S::entry(*n),
-        Call::Inverse(l) => S::from_list(l.as_slice())?
-            .inverse()
-            .ok_or(Refusal::NoInverse),
+        Call::Inverse(l) => S::from_list(l)?.inverse().ok_or(Refusal::NoInverse),
     }
 }
 
@@ -72,13 +64,8 @@ fn numbers<S: Listed>(heap: Global, x: &S) -> Result<Vec<u64>, AllocError>
 fn listed<S: Listed>(heap: Global, call: &Call<Vec<u64>>) -> Result<Vec<u64>, Halt>
     ensures { Worked vec_items S.sys (shown vec_items call.now) result }
 {
-    match answer::<S>(call) {
-        Err(refusal) => Err(Halt::Refused(refusal)),
-        Ok(x) => match numbers(heap, &x) {
-            Ok(found) => Ok(found),
-            Err(_) => Err(Halt::NoMemory),
-        },
-    }
+    let x = answer::<S>(call)?;
+    Ok(numbers(heap, &x)?)
 }
 
 // The list of what a command gives, or why it gives none.

@@ -3,7 +3,7 @@ use crate::command::Reason;
 use numbers::refusal::Refusal;
 
 // What a line comes to.
-#[derive(Drop)]
+#[derive(PartialEq, Eq, Debug, Drop)]
 pub enum Answer {
     Element(Vec<u64>),
     Refused(Refusal),
@@ -11,7 +11,7 @@ pub enum Answer {
 }
 
 // How many lines were answered, and how; each count stops at the largest number of 64 bits.
-#[derive(Clone, Copy)]
+#[derive(Clone, Copy, PartialEq, Eq, Debug, Default)]
 pub struct Tally {
     pub lines: u64,
     pub answers: u64,

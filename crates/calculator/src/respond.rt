@@ -1,5 +1,5 @@
 // From a line to its answer, and from the answer to text.
-ghost use Rattle.std.specs.Prelude.{◌≡◌, IfOk, string_bytes, Decides};
+ghost use Rattle.std.specs.Prelude.{◌≡◌, Some, IfOk, string_bytes, Decides};
 ghost use Rattle.calculator.specs.Lines.{Answers, answer_text, Passed, noted};
 ghost use Rattle.calculator.specs.Text.{listing};
 
@@ -8,20 +8,13 @@ use crate::evaluate::evaluate;
 use crate::line::{Answer, Tally};
 use crate::parse::parse;
 use std::alloc::{AllocError, Global};
+use std::fmt;
 
 // Whether a line asks for nothing: it is blank, or a remark that begins with #.
 pub fn passed_over(line: &str) -> bool
     ensures { Decides result (Passed line.now) }
 {
-    if line.starts_with('#') {
-        return true;
-    }
-    for b in line.as_bytes() {
-        if *b != b' ' {
-            return false;
-        }
-    }
-    true
+    line.starts_with('#') || line.bytes().all(|b| b == b' ')
 }
 
 // The answer to a line.
@@ -31,32 +24,55 @@ pub fn respond(heap: Global, line: &str) -> Result<Answer, AllocError>
     let command = match parse(heap, line) {
         Ok(command) => command,
         Err(Fault::Unreadable(reason)) => return Ok(Answer::Unreadable(reason)),
-        Err(Fault::NoMemory) => return Err(AllocError),
+        Err(Fault::NoMemory(error)) => return Err(error),
     };
     match evaluate(heap, &command) {
         Ok(numbers) => Ok(Answer::Element(numbers)),
-        Err(halt) => match halt {
-            Halt::Refused(refusal) => Ok(Answer::Refused(refusal)),
-            Halt::NoMemory => Err(AllocError),
-        },
+        Err(Halt::Refused(refusal)) => Ok(Answer::Refused(refusal)),
+        Err(Halt::NoMemory(error)) => Err(error),
     }
 }
 
-// A list of numbers as it is written: in brackets, with commas between.
+// A list of numbers, which is printed in brackets, with commas between.
+#[derive(Clone, Copy)]
+struct NumberList<'a>(&'a [u64]);
+
+impl fmt::Display for NumberList<'_> {
+    ghost output = { λ l. Some (listing l.0.now) };
+
+    fn fmt<W: fmt::Write>(&self, f: &mut fmt::Formatter<W>) -> fmt::Result {
+        let Some((first, rest)) = self.0.split_first() else {
+            return write!(f, "[]");
+        };
+        write!(f, "[{first}")?;
+        for n in rest {
+            write!(f, ",{n}")?;
+        }
+        write!(f, "]")
+    }
+}
+
+// A list of numbers as it is printed.
 pub fn show_list(heap: Global, numbers: &[u64]) -> Result<String, AllocError>
     ensures { IfOk result (λ s. string_bytes s ≡ listing numbers.now) }
 {
-    let mut text = String::from_str(heap, "[")?;
-    for i in 0..numbers.len() {
-        if i > 0 {
-            text.push(',')?;
+    NumberList(numbers).to_string(heap)
+}
+
+impl fmt::Display for Answer {
+    ghost output = { λ a. Some (answer_text a) };
+
+    fn fmt<W: fmt::Write>(&self, f: &mut fmt::Formatter<W>) -> fmt::Result {
+        match self {
+            Answer::Element(numbers) => NumberList(numbers).fmt(f),
+            Answer::Refused(refusal) => {
+                let number = refusal.number();
+                let word = refusal.word();
+                write!(f, "refusal {number} ({word})")
+            }
+            Answer::Unreadable(reason) => write!(f, "unreadable: {reason}"),
         }
-        let n = numbers[i];
-        let digits = format!(in heap; "{n}")?;
-        text.push_str(digits.as_str())?;
     }
-    text.push(']')?;
-    Ok(text)
 }
 
 impl Answer {
@@ -64,18 +80,7 @@ impl Answer {
     pub fn show(&self, heap: Global) -> Result<String, AllocError>
         ensures { IfOk result (λ s. string_bytes s ≡ answer_text self.now) }
     {
-        match self {
-            Answer::Element(numbers) => show_list(heap, numbers.as_slice()),
-            Answer::Refused(refusal) => {
-                let number = refusal.number();
-                let word = refusal.word();
-                format!(in heap; "refusal {number} ({word})")
-            }
-            Answer::Unreadable(reason) => {
-                let why = reason.text();
-                format!(in heap; "unreadable: {why}")
-            }
-        }
+        self.to_string(heap)
     }
 }
 
@@ -84,12 +89,7 @@ impl Tally {
     pub fn new() -> Tally
         ensures { result ≡ record { lines = 0; answers = 0; refusals = 0; unreadable = 0 } }
     {
-        Tally {
-            lines: 0,
-            answers: 0,
-            refusals: 0,
-            unreadable: 0,
-        }
+        Tally::default()
     }
 
     // One line more, with its answer.

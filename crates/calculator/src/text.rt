@@ -1,6 +1,6 @@
 // Numbers and lists of numbers in a text.
-ghost use Rattle.std.specs.Prelude.{◌≡◌, ℕ, ◌+◌, ◌<◌, ◌≤◌, List, [], ◌∷◌, ◌++◌, map, length, IfOk, vec_items, vec_len, string_bytes};
-ghost use Rattle.calculator.specs.Text.{Found, parts, Number, Numbers, items, Bracketed, Listing, listing};
+ghost use Rattle.std.specs.Prelude.{◌≡◌, ◌<◌, map, IfOk, vec_items};
+ghost use Rattle.calculator.specs.Text.{Found, parts, Number, Numbers, Bracketed, Listing};
 
 use std::alloc::{AllocError, Global};
 
@@ -13,14 +13,7 @@ pub(crate) fn split<'a>(
     requires { separator < 128 }
     ensures { IfOk result (λ v. map (λ x. x.now) v.items ≡ parts separator text.now) }
 {
-    let mut found = Vec::new(heap);
-    let mut rest = text;
-    while let Some((first, after)) = rest.split_once(separator) {
-        found.push(first)?;
-        rest = after;
-    }
-    found.push(rest)?;
-    Ok(found)
+    text.split(separator).collect(heap)
 }
 
 // The number that a text is, in decimal digits; none if it is no such text.
@@ -30,23 +23,14 @@ pub fn number(text: &str) -> Option<u64>
     if text.len() > 20 || text.starts_with('+') {
         return None;
     }
-    match text.parse::<u64>() {
-        Ok(n) => Some(n),
-        Err(_) => None,
-    }
+    text.parse().ok()
 }
 
 // What stands between the brackets.
 fn inside(text: &str) -> Option<&str>
     ensures { Found (λ x. x.now) (Bracketed text.now) result }
 {
-    let Some(rest) = text.strip_prefix('[') else {
-        return None;
-    };
-    match rest.strip_suffix(']') {
-        Some(inner) => Some(inner),
-        None => None,
-    }
+    text.strip_prefix('[')?.strip_suffix(']')
 }
 
 // The numbers that texts are, one by one; none if one of them is no number.
@@ -54,8 +38,7 @@ fn numbers(heap: Global, texts: &[&str]) -> Result<Option<Vec<u64>>, AllocError>
     ensures { IfOk result (Found vec_items (Numbers (map (λ x. x.now) texts.now))) }
 {
     let mut found = Vec::new(heap);
-    for i in 0..texts.len() {
-        let text = texts[i];
+    for text in texts {
         let Some(n) = number(text) else {
             return Ok(None);
         };
@@ -75,6 +58,5 @@ pub fn list(heap: Global, text: &str) -> Result<Option<Vec<u64>>, AllocError>
         return Ok(Some(Vec::new(heap)));
     }
     let texts = split(heap, inner, ',')?;
-    let found = numbers(heap, texts.as_slice())?;
-    Ok(found)
+    numbers(heap, &texts)
 }

@@ -1,6 +1,5 @@
-use Rattle.std.proofs.Common.{ℕ, Err, vec_items, subst}
-use Rattle.std.specs.declared.alloc.Global.{Global}
-use Rattle.calculator.specs.Results.{shown, Worked, system_of}
+use Rattle.std.proofs.Common.{vec_items}
+use Rattle.calculator.specs.Results.{shown}
 use Rattle.calculator.specs.Text.{words}
 use Rattle.calculator.proofs.Shown.{writes_shown}
 use Rattle.calculator.proofs.respond.respond.Goals as goal
@@ -13,10 +12,10 @@ returns-in-Ok-evaluate c =
       c.in-Ok-evaluate.ensures,
     )
 
-pub returns-in-Refused : goal.returns-in-Refused
-returns-in-Refused c =
+pub returns-in-Err-Refused : goal.returns-in-Err-Refused
+returns-in-Err-Refused c =
     let command = c.in-Ok.command in (
       record { base = command.base; call = shown vec_items command.call },
       writes_shown vec_items command (words c.args.line.now) c.in-Ok.ensures,
-      subst (λ h. Worked (vec_items {X = ℕ} {Z = Global}) (system_of command.base) (shown vec_items command.call) (Err h)) c.in-Refused.is c.in-Err.ensures,
+      rw c.in-Err-Refused.field-0-is at c.in-Err-Refused.ensures,
     )
