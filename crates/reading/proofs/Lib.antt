@@ -1,3 +1,4 @@
+pub mod Elements
 pub mod Refusals
 pub mod Sums
 pub mod Windows

@@ -1,5 +1,6 @@
 -- The plain sheet: a list L of entries, what each call is answered from it, and what the call leaves of it.
 use Rattle.std.specs.Prelude.{ℕ, ◌+◌, ◌<◌, Bool, true, false, List, [], ◌∷◌, ◌++◌, map, length, drop, Some, None, Option, nat_lt, slice_index, slice_set}
+use Rattle.std.specs.Coded.{×_prop, Unit-prop, le_prop}
 use Rattle.algebra.specs.Ring.{multiple}
 use Rattle.algebra.specs.Polynomial.{value, Each}
 use Rattle.numbers.specs.Systems.{Sys}
@@ -72,3 +73,7 @@ said mean (Refused q) = Refused q
 -- each entry is below the limit
 abbrev pub Below : ℕ → List ℕ → Type 0
 Below limit L = Each (λ e. e < limit) L
+
+pub Below_prop : (limit : ℕ) (L : List ℕ) → IsProp (Below limit L)
+Below_prop limit [] = Unit-prop
+Below_prop limit (e ∷ L) = ×_prop le_prop (Below_prop limit L)

@@ -1,7 +1,12 @@
 // The states of a reading. A point is drawn, a reading is begun from it, and closing the reading leaves its figure. Each state is moved into the next: a
 // point serves one reading, and a closed reading takes no more calls.
-ghost use Rattle.std.specs.Prelude.{◌<◌, ◌≤◌};
-ghost use Rattle.reading.specs.Sheet.{most};
+ghost use Rattle.std.specs.Prelude.{◌≡◌, ◌<◌, ◌≤◌};
+ghost use Rattle.algebra.specs.Ring.{power as to_power};
+ghost use Rattle.algebra.specs.Units.{Inverts};
+ghost use Rattle.reading.specs.Sheet.{most, sum_of, Below, Below_prop};
+ghost use Rattle.reading.specs.Windows.{window};
+
+use numbers::system::System;
 
 pub mod figures;
 pub mod points;
@@ -12,15 +17,16 @@ pub const MOST: usize = 512;
 
 // An element with its inverse.
 #[derive(Drop)]
-pub struct Point<S> {
+pub struct Point<S: System> {
     element: S,
     inverse: S,
+    ghost inverts: { ∥ Inverts S.sys.ops (S.mean element) (S.mean inverse) ∥₁ },
 }
 
 // An open reading. The entries of its sheet stand in the table from `start` on, going round at the end of the table; `power` is the element to the power
 // of the count, by which the next entry is multiplied.
 #[derive(Drop)]
-pub struct Reading<S> {
+pub struct Reading<S: System> {
     element: S,
     inverse: S,
     table: [u64; MOST],
@@ -30,6 +36,10 @@ pub struct Reading<S> {
     power: S,
     ghost begins: { start < most },
     ghost fits: { count ≤ most },
+    ghost inverts: { ∥ Inverts S.sys.ops (S.mean element) (S.mean inverse) ∥₁ },
+    ghost summed: { ∥ S.mean sum ≡ sum_of S.sys (S.mean element) (window table start count) ∥₁ },
+    ghost raised: { ∥ S.mean power ≡ to_power S.sys.ops (S.mean element) count ∥₁ },
+    ghost below: { Below S.sys.limit (window table start count) } by { Below_prop S.sys.limit (window table start count) },
 }
 
 // What is left of a reading: the element, the count of its entries, and their sum there.

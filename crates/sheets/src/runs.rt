@@ -1,7 +1,7 @@
 // A whole reading: any calls, one after another, from a point that is drawn to the figure that is left.
 ghost use Rattle.std.specs.Prelude.{◌≡◌, map, length, Ok, Err};
 ghost use Rattle.reading.specs.Sheet.{after, answers, said};
-ghost use Rattle.reading.specs.Sound.{Sound, sheet};
+ghost use Rattle.reading.specs.Sound.{sheet};
 ghost use Rattle.sheets.specs.Agreement.{Agreement};
 ghost use Rattle.sheets.specs.Runs.{OnlyInverse, AsPlainSheet, Refused};
 
@@ -20,15 +20,13 @@ pub struct Run<S: System> {
 
 // Makes the calls one after another, and puts down the answer to each.
 fn play<S: System>(reading: &mut Reading<S>, calls: &[Call], out: &mut [Answer<S>])
-    requires sound { Sound S.sys S.mean reading.old }
-    requires places { length out.old ≡ length calls.now }
-    ensures sound { Sound S.sys S.mean reading.new }
+    requires { length out.old ≡ length calls.now }
     ensures point { reading.new.element ≡ reading.old.element }
     ensures list { sheet reading.new ≡ after S.sys (sheet reading.old) calls.now }
     ensures answers { map (said S.mean) out.new ≡ answers S.sys (S.mean reading.old.element) (sheet reading.old) calls.now }
 {
-    for i in 0..out.len() {
-        out[i] = reading.call(calls[i]);
+    for (i, call) in calls.iter().enumerate() {
+        out[i] = reading.call(*call);
     }
 }
 
@@ -44,8 +42,7 @@ pub fn read<S: System>(x: S, calls: &[Call], out: &mut [Answer<S>]) -> Result<Ru
     ensures runs { elim result [ Ok run ↦ AsPlainSheet S.sys S.mean x calls.now out.new run.figure | Err q ↦ out.new ≡ out.old ] }
     ensures agreement { Agreement S.sys }
 {
-    let cut = out.len() != calls.len();
-    if cut {
+    if out.len() != calls.len() {
         return Err(Refusal::CutList);
     }
     let point = draw(x)?;

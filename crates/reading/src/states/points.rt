@@ -1,7 +1,7 @@
 // Drawing a point, and beginning a reading there.
 ghost use Rattle.std.specs.Prelude.{◌≡◌, [], Ok, Err};
 ghost use Rattle.algebra.specs.Units.{Inverts, NoInverse};
-ghost use Rattle.reading.specs.Sound.{Sound, sheet};
+ghost use Rattle.reading.specs.Sound.{sheet};
 
 use super::{MOST, Point, Reading};
 use numbers::refusal::Refusal;
@@ -35,7 +35,6 @@ impl<S: System> Point<S> {
 
     // An open reading without entries, which uses the point up.
     pub fn begin(self) -> Reading<S>
-        ensures sound { Inverts S.sys.ops (S.mean self.element) (S.mean self.inverse) → Sound S.sys S.mean result }
         ensures empty { sheet result ≡ [] }
         ensures point { (result.element ≡ self.element) × (result.inverse ≡ self.inverse) }
     {
