@@ -33,7 +33,7 @@ pub fn root() -> System8
 }
 
 // The figure after any calls at X, which has an inverse.
-fn figure_after(calls: &[Call], out: &mut [Answer<System8>]) -> Result<Figure<System8>, Refusal>
+fn figure_after(calls: &[Call], out: &mut [Result<Answer<System8>, Refusal>]) -> Result<Figure<System8>, Refusal>
     requires { length out.old ≡ length calls.now }
     ensures { Leaves result (length (after system_8 [] calls.now)) (system_8.list (sum_of system_8 X (after system_8 [] calls.now))) }
 {
@@ -52,7 +52,7 @@ pub fn after_a_drop() -> Result<Figure<System8>, Refusal>
         Call::Drop,
         Call::Append(1),
     ];
-    let mut out = [Answer::Count(0); 5];
+    let mut out = [Ok(Answer::Count(0)); 5];
     figure_after(&calls, &mut out)
 }
 
@@ -63,7 +63,7 @@ pub fn of_one_and_one() -> Result<Figure<System8>, Refusal>
     let one = Call::Append(1);
     let zero = Call::Append(0);
     let calls = [one, zero, zero, zero, zero, one];
-    let mut out = [Answer::Count(0); 6];
+    let mut out = [Ok(Answer::Count(0)); 6];
     figure_after(&calls, &mut out)
 }
 
@@ -74,7 +74,7 @@ pub fn of_three() -> Result<Figure<System8>, Refusal>
     let three = Call::Append(3);
     let zero = Call::Append(0);
     let calls = [three, zero, zero, zero, zero, zero];
-    let mut out = [Answer::Count(0); 6];
+    let mut out = [Ok(Answer::Count(0)); 6];
     figure_after(&calls, &mut out)
 }
 

@@ -1,12 +1,12 @@
 -- The sheet that a reading holds, and what is true of every reading that was begun from a drawn point.
-use Rattle.std.specs.Prelude.{◌≡◌, ℕ, List, Some, None}
+use Rattle.std.specs.Prelude.{◌≡◌, ℕ, List, Some, None, Ok, Err, Result}
 use Rattle.numbers.specs.Systems.{Sys}
 use Rattle.numbers.specs.declared.refusal.Refusal.{Refusal}
 use Rattle.reading.specs.Sheet.{refusal, taken}
 use Rattle.reading.specs.Windows.{window}
 use Rattle.reading.specs.declared.calls.Call.{Call}
 use Rattle.reading.specs.declared.calls.Answer.{Answer}
-use Rattle.reading.specs.declared.calls.Answer.TheVariants.{Count, Entry, Seen, Refused}
+use Rattle.reading.specs.declared.calls.Answer.TheVariants.{Count, Entry, Seen}
 use Rattle.reading.specs.declared.states.Reading.{Reading}
 use Rattle.reading.specs.declared.states.Figure.{Figure}
 
@@ -30,11 +30,11 @@ pub record Refuses {S : Type 0} {G : _} (s : Sys) (c : Call) (q : Refusal) (befo
   pub unchanged : later ≡ before
 
 -- a look and a refusal leave the reading as it was
-abbrev pub Leaves : {S : Type 0} {G : _} → Answer S → Reading S G → Reading S G → Type 0
-Leaves (Count n) before later = Unit {0}
-Leaves (Entry e) before later = Unit {0}
-Leaves (Seen n v) before later = later ≡ before
-Leaves (Refused q) before later = later ≡ before
+abbrev pub Leaves : {S : Type 0} {G : _} → Result (Answer S) Refusal → Reading S G → Reading S G → Type 0
+Leaves (Ok (Count n)) before later = Unit {0}
+Leaves (Ok (Entry e)) before later = Unit {0}
+Leaves (Ok (Seen n v)) before later = later ≡ before
+Leaves (Err q) before later = later ≡ before
 
 -- Two figures are alike: the elements are the same, the counts and the sums.
 pub record Alike {S : Type 0} (s : Sys) (mean : S → s.Elem) (f g : Figure S) : Type 0 where

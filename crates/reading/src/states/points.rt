@@ -11,9 +11,7 @@ use numbers::system::System;
 pub fn draw<S: System>(x: S) -> Result<Point<S>, Refusal>
     ensures { elim result [ Ok p ↦ (p.element ≡ x) × Inverts S.sys.ops (S.mean x) (S.mean p.inverse) | Err q ↦ (q ≡ Refusal.NoInverse) × NoInverse S.sys.ops (S.mean x) ] }
 {
-    let Some(inverse) = x.inverse() else {
-        return Err(Refusal::NoInverse);
-    };
+    let inverse = x.inverse().ok_or(Refusal::NoInverse)?;
     Ok(Point {
         element: x,
         inverse,

@@ -72,29 +72,20 @@ impl<S: System> Reading<S> {
         (self.count, self.sum)
     }
 
-    // Any of these calls, with its answer.
-    pub fn call(&mut self, call: Call) -> Answer<S>
+    // Any of these calls, with its answer or its refusal.
+    pub fn call(&mut self, call: Call) -> Result<Answer<S>, Refusal>
         ensures point { SamePoint self.old self.new }
         ensures list { sheet self.new ≡ changed S.sys (sheet self.old) call }
         ensures unchanged { Leaves result self.old self.new }
         ensures answer { said S.mean result ≡ told S.sys (S.mean self.old.element) (sheet self.old) call }
     {
         match call {
-            Call::Append(e) => match self.append(e) {
-                Ok(count) => Answer::Count(count),
-                Err(refusal) => Answer::Refused(refusal),
-            },
-            Call::Drop => match self.drop() {
-                Ok(entry) => Answer::Entry(entry),
-                Err(refusal) => Answer::Refused(refusal),
-            },
-            Call::Replace(place, e) => match self.replace(place, e) {
-                Ok(entry) => Answer::Entry(entry),
-                Err(refusal) => Answer::Refused(refusal),
-            },
+            Call::Append(e) => Ok(Answer::Count(self.append(e)?)),
+            Call::Drop => Ok(Answer::Entry(self.drop()?)),
+            Call::Replace(place, e) => Ok(Answer::Entry(self.replace(place, e)?)),
             Call::Look => {
                 let (count, sum) = self.look();
-                Answer::Seen(count, sum)
+                Ok(Answer::Seen(count, sum))
             }
         }
     }
