@@ -42,6 +42,7 @@ fn figure_after(calls: &[Call], out: &mut [Result<Answer<System8>, Refusal>]) ->
 }
 
 // Append 3, 4, 5, drop, append 1.
+#[tactic(auto, unfolding(reading::specs::Sheet::after))]
 pub fn after_a_drop() -> Result<Figure<System8>, Refusal>
     ensures { Leaves result 3 (4 ∷ 5 ∷ 1 ∷ 0 ∷ 0 ∷ []) }
 {
@@ -57,6 +58,7 @@ pub fn after_a_drop() -> Result<Figure<System8>, Refusal>
 }
 
 // The sheet 1,0,0,0,0,1.
+#[tactic(auto, unfolding(reading::specs::Sheet::after))]
 pub fn of_one_and_one() -> Result<Figure<System8>, Refusal>
     ensures { Leaves result 6 (3 ∷ 0 ∷ 0 ∷ 0 ∷ 0 ∷ []) }
 {
@@ -68,6 +70,7 @@ pub fn of_one_and_one() -> Result<Figure<System8>, Refusal>
 }
 
 // The sheet 3,0,0,0,0,0, which has the same figure at X.
+#[tactic(auto, unfolding(reading::specs::Sheet::after))]
 pub fn of_three() -> Result<Figure<System8>, Refusal>
     ensures { Leaves result 6 (3 ∷ 0 ∷ 0 ∷ 0 ∷ 0 ∷ []) }
 {

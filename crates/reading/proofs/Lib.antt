@@ -1,4 +1,4 @@
-pub mod Elements
 pub mod Refusals
+pub mod Soundness
 pub mod Sums
 pub mod Windows

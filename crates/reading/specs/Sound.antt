@@ -1,8 +1,10 @@
--- The sheet that a reading holds, and what is true of every reading that was begun from a drawn point.
+-- The sheet that a reading holds, what is true of every reading, and what its calls leave of it.
 use Rattle.std.specs.Prelude.{◌≡◌, ℕ, List, Some, None, Ok, Err, Result}
+use Rattle.algebra.specs.Ring.{power}
+use Rattle.algebra.specs.Units.{Inverts}
 use Rattle.numbers.specs.Systems.{Sys}
 use Rattle.numbers.specs.declared.refusal.Refusal.{Refusal}
-use Rattle.reading.specs.Sheet.{refusal, taken}
+use Rattle.reading.specs.Sheet.{sum_of, refusal, taken, Below}
 use Rattle.reading.specs.Windows.{window}
 use Rattle.reading.specs.declared.calls.Call.{Call}
 use Rattle.reading.specs.declared.calls.Answer.{Answer}
@@ -13,6 +15,13 @@ use Rattle.reading.specs.declared.states.Figure.{Figure}
 -- the sheet that a reading holds
 abbrev pub sheet : {S : Type 0} {G : _} → Reading S G → List ℕ
 sheet r = window r.table r.start r.count
+
+-- The inverse is the element's, the sum is the sheet's, the power is the element to the count, and every entry is below the limit.
+pub record Sound {S : Type 0} {G : _} (s : Sys) (mean : S → s.Elem) (r : Reading S G) : Type 0 where
+  pub inverts : Inverts s.ops (mean r.element) (mean r.inverse)
+  pub summed : mean r.sum ≡ sum_of s (mean r.element) (sheet r)
+  pub raised : mean r.power ≡ power s.ops (mean r.element) r.count
+  pub below : Below s.limit (sheet r)
 
 -- a later state of a reading is at the same point
 pub record SamePoint {S : Type 0} {G : _} (before later : Reading S G) : Type 0 where

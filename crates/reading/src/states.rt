@@ -1,5 +1,8 @@
 // The states of a reading. A point is drawn, a reading is begun from it, and closing the reading leaves its figure. Each state is moved into the next: a
 // point serves one reading, and a closed reading takes no more calls.
+//
+// What is true of every point and of every reading stands in ghost fields. That an equation between elements has one proof follows from the laws of the
+// system, which a ghost field cannot cite, so these equations are truncated; `sound` of proofs/Soundness.antt gives them back.
 ghost use Rattle.std.specs.Prelude.{◌≡◌, ◌<◌, ◌≤◌};
 ghost use Rattle.algebra.specs.Ring.{power as to_power};
 ghost use Rattle.algebra.specs.Units.{Inverts};
@@ -24,7 +27,7 @@ pub struct Point<S: System> {
 }
 
 // An open reading. The entries of its sheet stand in the table from `start` on, going round at the end of the table; `power` is the element to the power
-// of the count, by which the next entry is multiplied.
+// of the count, by which the next entry is multiplied. The queues of the libraries allocate, or move every entry when the first one goes.
 #[derive(Drop)]
 pub struct Reading<S: System> {
     element: S,

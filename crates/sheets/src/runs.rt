@@ -25,6 +25,7 @@ fn play<S: System>(reading: &mut Reading<S>, calls: &[Call], out: &mut [Result<A
     ensures list { sheet reading.new ≡ after S.sys (sheet reading.old) calls.now }
     ensures answers { map (said S.mean) out.new ≡ answers S.sys (S.mean reading.old.element) (sheet reading.old) calls.now }
 {
+    // by places, since a proof knows nothing of what is written through an adapter of `iter_mut`
     for (i, call) in calls.iter().enumerate() {
         out[i] = reading.call(*call);
     }

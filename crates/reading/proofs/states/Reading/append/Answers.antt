@@ -2,8 +2,8 @@ use Rattle.std.proofs.Common.{◌≡◌, ◌+◌, ◌<◌, ◌≤◌, length, sy
 use Rattle.algebra.specs.Ring.{power}
 use Rattle.reading.specs.Sheet.{most, sum_of, Below}
 use Rattle.reading.specs.Sound.{sheet}
-use Rattle.reading.proofs.Elements.{told}
 use Rattle.reading.proofs.Refusals.{append_taken, append_full}
+use Rattle.reading.proofs.Soundness.{sound}
 use Rattle.reading.proofs.Sums.{sum_append, power_next, below_append}
 use Rattle.reading.proofs.Windows.{window_length, window_append}
 use Rattle.reading.proofs.states.Reading.append.Goals as goal
@@ -23,9 +23,9 @@ invariant_of-self-clause-summed g c =
     let x = g.S.System.mean s.element in
     let len : length s.table ≡ most = search rules in
     let list = window_append s.table s.start s.count c.args.e len c.if-self-ge-MOST.false in
-    let raised = told sys W s.raised ∙ ap (power o x) (sym (window_length s.table s.start s.count)) in
+    let raised = (sound s W).raised ∙ ap (power o x) (sym (window_length s.table s.start s.count)) in
     ∣ c.add-self.ensures
-    ∙ ap₂ o.add (told sys W s.summed) (c.mul.ensures ∙ ap₂ o.mul c.in_ok-value.ensures.1 raised)
+    ∙ ap₂ o.add (sound s W).summed (c.mul.ensures ∙ ap₂ o.mul c.in_ok-value.ensures.1 raised)
     ∙ sym (ap (sum_of sys x) list ∙ sum_append o W.ring x (sheet s) c.args.e) ∣₁
 
 pub invariant_of-self-clause-raised : goal.invariant_of-self-clause-raised
@@ -35,7 +35,7 @@ invariant_of-self-clause-raised g c =
     let W = g.met.S.System.lawful in
     let s = c.args.self.now in
     let x = g.S.System.mean s.element in
-    ∣ c.mul-self.ensures ∙ ap (λ p. o.mul p x) (told sys W s.raised) ∙ power_next o W.ring x s.count ∙ ap (power o x) (sym (add-one s.count)) ∣₁
+    ∣ c.mul-self.ensures ∙ ap (λ p. o.mul p x) (sound s W).raised ∙ power_next o W.ring x s.count ∙ ap (power o x) (sym (add-one s.count)) ∣₁
 
 pub invariant_of-self-clause-below : goal.invariant_of-self-clause-below
 invariant_of-self-clause-below g c =

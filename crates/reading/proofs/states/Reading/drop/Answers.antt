@@ -3,8 +3,8 @@ use Rattle.algebra.specs.Ring.{sub, power}
 use Rattle.reading.specs.Sheet.{most, sum_of}
 use Rattle.reading.specs.Sound.{sheet}
 use Rattle.reading.specs.Windows.{window}
-use Rattle.reading.proofs.Elements.{told}
 use Rattle.reading.proofs.Refusals.{drop_taken, drop_empty}
+use Rattle.reading.proofs.Soundness.{sound}
 use Rattle.reading.proofs.Sums.{sum_drop, power-drop}
 use Rattle.reading.proofs.Windows.{window_length, window_drop}
 use Rattle.reading.proofs.states.Reading.drop.Goals as goal
@@ -36,8 +36,8 @@ invariant_of-self-clause-summed g c =
     let split = window_drop s.table s.start s.count s.begins some in
     let others = window s.table ((s.start + 1) % most) (s.count - 1) in
     ∣ c.mul-self.ensures
-    ∙ ap (λ a. o.mul a i) (c.sub.ensures ∙ ap₂ (sub o) (told sys W s.summed ∙ ap (sum_of sys x) split) c.in_ok-value.ensures.1)
-    ∙ sum_drop o W.ring x i (get_or s.table s.start 0) others (told sys W s.inverts) ∣₁
+    ∙ ap (λ a. o.mul a i) (c.sub.ensures ∙ ap₂ (sub o) ((sound s W).summed ∙ ap (sum_of sys x) split) c.in_ok-value.ensures.1)
+    ∙ sum_drop o W.ring x i (get_or s.table s.start 0) others (sound s W).inverts ∣₁
 
 pub invariant_of-self-clause-raised : goal.invariant_of-self-clause-raised
 invariant_of-self-clause-raised g c =
@@ -49,7 +49,7 @@ invariant_of-self-clause-raised g c =
     let x = m s.element in
     let i = m s.inverse in
     let count : s.count ≡ suc (s.count - 1) = omega arith in
-    ∣ c.mul-lower.ensures ∙ ap (λ p. o.mul p i) (told sys W s.raised ∙ ap (power o x) count) ∙ power-drop o W.ring x i (s.count - 1) (told sys W s.inverts) ∣₁
+    ∣ c.mul-lower.ensures ∙ ap (λ p. o.mul p i) ((sound s W).raised ∙ ap (power o x) count) ∙ power-drop o W.ring x i (s.count - 1) (sound s W).inverts ∣₁
 
 pub invariant_of-self-clause-below : goal.invariant_of-self-clause-below
 invariant_of-self-clause-below g c =

@@ -2,8 +2,8 @@ use Rattle.std.proofs.Common.{◌≡◌, ◌<◌, ◌≤◌, length, sym, refl, 
 use Rattle.algebra.specs.Ring.{sub, multiple}
 use Rattle.reading.specs.Sheet.{most, sum_of, Below}
 use Rattle.reading.specs.Sound.{sheet}
-use Rattle.reading.proofs.Elements.{told}
 use Rattle.reading.proofs.Refusals.{replace_taken, replace_beyond}
+use Rattle.reading.proofs.Soundness.{sound}
 use Rattle.reading.proofs.Sums.{sum_set, below_set, below_at}
 use Rattle.reading.proofs.Windows.{window_length, window_at, window_set}
 use Rattle.reading.proofs.states.Reading.replace.Goals as goal
@@ -40,7 +40,7 @@ invariant_of-self-clause-summed g c =
     let list = window_set s.table s.start s.count i e len s.fits here in
     let change = c.sub.ensures ∙ ap₂ (sub o) c.in_ok-value.ensures.1 (c.in_ok-old_value.ensures.1 ∙ ap (multiple o) (sym old)) in
     ∣ c.add-self.ensures
-    ∙ ap₂ o.add (told sys W s.summed) (c.mul.ensures ∙ ap₂ o.mul change c.exp_u64-power.ensures)
+    ∙ ap₂ o.add (sound s W).summed (c.mul.ensures ∙ ap₂ o.mul change c.exp_u64-power.ensures)
     ∙ sym (ap (sum_of sys x) list ∙ sum_set o W.ring x (sheet s) i e within) ∣₁
 
 pub invariant_of-self-clause-below : goal.invariant_of-self-clause-below
