@@ -33,7 +33,10 @@ pub fn root() -> System8
 }
 
 // The figure after any calls at X, which has an inverse.
-fn figure_after(calls: &[Call], out: &mut [Result<Answer<System8>, Refusal>]) -> Result<Figure<System8>, Refusal>
+fn figure_after(
+    calls: &[Call],
+    out: &mut [Result<Answer<System8>, Refusal>],
+) -> Result<Figure<System8>, Refusal>
     requires { length out.old ≡ length calls.now }
     ensures { Leaves result (length (after system_8 [] calls.now)) (system_8.list (sum_of system_8 X (after system_8 [] calls.now))) }
 {

@@ -38,7 +38,11 @@ fn play<S: System>(reading: &mut Reading<S>, calls: &[Call], out: &mut [Result<A
 // runs: the answers are the plain sheet's to the same calls, whatever they are, and the figure has the element with that sheet's count and sum there.
 // agreement: two sheets of equally many entries that any such calls have read at as many points or more, and that show equal sums at each of them, are
 // equal entry for entry, if any two of the points differ by a unit.
-pub fn read<S: System>(x: S, calls: &[Call], out: &mut [Result<Answer<S>, Refusal>]) -> Result<Run<S>, Refusal>
+pub fn read<S: System>(
+    x: S,
+    calls: &[Call],
+    out: &mut [Result<Answer<S>, Refusal>],
+) -> Result<Run<S>, Refusal>
     ensures inverse { elim result [ Ok run ↦ OnlyInverse S.sys.ops (S.mean x) (S.mean run.inverse) | Err q ↦ Refused S.sys (S.mean x) (length calls.now) (length out.old) q ] }
     ensures runs { elim result [ Ok run ↦ AsPlainSheet S.sys S.mean x calls.now out.new run.figure | Err q ↦ out.new ≡ out.old ] }
     ensures agreement { Agreement S.sys }
