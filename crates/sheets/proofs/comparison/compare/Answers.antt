@@ -1,9 +1,9 @@
-use Rattle.std.proofs.Common.{◌≡◌, ◌≤◌, Bool, true, false, T, ◌&&◌, map, length, take, sym, ap, ◌∙◌, subst, arith, take_all}
+use Rattle.std.proofs.Common.{◌≡◌, ◌≤◌, Bool, true, false, T, ◌&&◌, map, length, take, sym, ap, ◌∙◌, subst, arith, take_all, rules}
 use Rattle.std.proofs.lemmas.List.{length-map}
 use Rattle.std.proofs.lemmas.Result.{err_from_is_err_and}
 use Rattle.algebra.specs.Polynomial.{Each}
 use Rattle.algebra.specs.Units.{IsUnit}
-use Rattle.reading.specs.Sheet.{sum_of}
+use Rattle.reading.specs.Sheet.{most, sum_of}
 use Rattle.sheets.specs.Comparisons.{SameFigures}
 use Rattle.sheets.proofs.Points.{each_more_map, each_less_map, each_at_map}
 use Rattle.sheets.proofs.Sheets.{sheets_same, same_sheet}
@@ -25,7 +25,9 @@ returns-in_err-left_figure-clause-refused g c =
     let units : Each (IsUnit s.ops) (map g.S.System.mean c.args.points.now) → ⊥ = λ each.
     let unit = each_at_map (IsUnit s.ops) g.S.System.mean c.args.points.now c.loop-x.x-index c.x-item.result c.loop-x-test.true c.x-item.is each in
     none.1 unit.0 unit.1 in
-    rw (p.1, p.2, none.0) ((c.in_ok-check_limit.ensures, c.in_ok-check_limit-2.ensures), (c.if-left-gt-MOST.false, c.if-right-gt-MOST.false), units)
+    let fits_left : length c.args.left.now ≤ most = search rules in
+    let fits_right : length c.args.right.now ≤ most = search rules in
+    rw (p.1, p.2, none.0) ((c.in_ok-check_limit.ensures, c.in_ok-check_limit-2.ensures), (fits_left, fits_right), units)
 
 pub loop-x-preserved : goal.loop-x-preserved
 loop-x-preserved g c =
