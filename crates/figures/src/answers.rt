@@ -3,7 +3,7 @@ use catalog::systems::{System1, System2, System3, System5, System7, System8, Sys
 use numbers::refusal::Refusal;
 use reading::states::Figure;
 
-// The answers, one for each row, named by what is worked out and by the number of the system.
+// The answers, one for each row, named by what is worked out and by the number of the system. They are of seven types, so that no list can hold them.
 #[derive(Drop)]
 pub struct Worked {
     pub product1: Option<System1>,

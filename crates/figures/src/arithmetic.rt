@@ -8,12 +8,8 @@ use numbers::listed::PrefixListed;
 pub fn product<S: PrefixListed>(left: &[u64], right: &[u64]) -> Option<S>
     ensures { ProductOf S.sys S.mean left.now right.now result }
 {
-    let Ok(a) = S::from_list(left) else {
-        return None;
-    };
-    let Ok(b) = S::from_list(right) else {
-        return None;
-    };
+    let a = S::from_list(left).ok()?;
+    let b = S::from_list(right).ok()?;
     Some(a.mul(&b))
 }
 
@@ -21,9 +17,7 @@ pub fn product<S: PrefixListed>(left: &[u64], right: &[u64]) -> Option<S>
 pub fn square<S: PrefixListed>(list: &[u64]) -> Option<S>
     ensures { ProductOf S.sys S.mean list.now list.now result }
 {
-    let Ok(a) = S::from_list(list) else {
-        return None;
-    };
+    let a = S::from_list(list).ok()?;
     Some(a.square())
 }
 
@@ -31,8 +25,6 @@ pub fn square<S: PrefixListed>(list: &[u64]) -> Option<S>
 pub fn inverse<S: PrefixListed>(list: &[u64]) -> Option<S>
     ensures { InverseOf S.sys S.mean list.now result }
 {
-    let Ok(a) = S::from_list(list) else {
-        return None;
-    };
+    let a = S::from_list(list).ok()?;
     a.inverse()
 }

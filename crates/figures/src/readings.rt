@@ -33,7 +33,10 @@ pub fn root() -> System8
 }
 
 // The figure after any calls at X, which has an inverse.
-fn figure_after(calls: &[Call], out: &mut [Answer<System8>]) -> Result<Figure<System8>, Refusal>
+fn figure_after(
+    calls: &[Call],
+    out: &mut [Result<Answer<System8>, Refusal>],
+) -> Result<Figure<System8>, Refusal>
     requires { length out.old ≡ length calls.now }
     ensures { Leaves result (length (after system_8 [] calls.now)) (system_8.list (sum_of system_8 X (after system_8 [] calls.now))) }
 {
@@ -42,6 +45,7 @@ fn figure_after(calls: &[Call], out: &mut [Answer<System8>]) -> Result<Figure<Sy
 }
 
 // Append 3, 4, 5, drop, append 1.
+#[tactic(auto, unfolding(reading::specs::Sheet::after))]
 pub fn after_a_drop() -> Result<Figure<System8>, Refusal>
     ensures { Leaves result 3 (4 ∷ 5 ∷ 1 ∷ 0 ∷ 0 ∷ []) }
 {
@@ -52,29 +56,31 @@ pub fn after_a_drop() -> Result<Figure<System8>, Refusal>
         Call::Drop,
         Call::Append(1),
     ];
-    let mut out = [Answer::Count(0); 5];
+    let mut out = [Ok(Answer::Count(0)); 5];
     figure_after(&calls, &mut out)
 }
 
 // The sheet 1,0,0,0,0,1.
+#[tactic(auto, unfolding(reading::specs::Sheet::after))]
 pub fn of_one_and_one() -> Result<Figure<System8>, Refusal>
     ensures { Leaves result 6 (3 ∷ 0 ∷ 0 ∷ 0 ∷ 0 ∷ []) }
 {
     let one = Call::Append(1);
     let zero = Call::Append(0);
     let calls = [one, zero, zero, zero, zero, one];
-    let mut out = [Answer::Count(0); 6];
+    let mut out = [Ok(Answer::Count(0)); 6];
     figure_after(&calls, &mut out)
 }
 
 // The sheet 3,0,0,0,0,0, which has the same figure at X.
+#[tactic(auto, unfolding(reading::specs::Sheet::after))]
 pub fn of_three() -> Result<Figure<System8>, Refusal>
     ensures { Leaves result 6 (3 ∷ 0 ∷ 0 ∷ 0 ∷ 0 ∷ []) }
 {
     let three = Call::Append(3);
     let zero = Call::Append(0);
     let calls = [three, zero, zero, zero, zero, zero];
-    let mut out = [Answer::Count(0); 6];
+    let mut out = [Ok(Answer::Count(0)); 6];
     figure_after(&calls, &mut out)
 }
 

@@ -1,3 +1,4 @@
 pub mod Refusals
+pub mod Soundness
 pub mod Sums
 pub mod Windows

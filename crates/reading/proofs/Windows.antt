@@ -3,7 +3,7 @@ use Rattle.std.proofs.Common.{◌≡◌, ℕ, zero, suc, ◌+◌, ◌-◌, ◌%�
 use native.Mathlib.Decide.{ℕ_discrete}
 use Rattle.std.proofs.lemmas.List.{ext_get_or}
 use Rattle.reading.specs.Sheet.{most}
-use Rattle.reading.specs.Sound.{window}
+use Rattle.reading.specs.Windows.{window}
 
 pub window_length : (t : List ℕ) (s n : ℕ) → length (window t s n) ≡ n
 unfolding window

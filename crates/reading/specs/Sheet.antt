@@ -1,5 +1,6 @@
 -- The plain sheet: a list L of entries, what each call is answered from it, and what the call leaves of it.
-use Rattle.std.specs.Prelude.{ℕ, ◌+◌, ◌<◌, Bool, true, false, List, [], ◌∷◌, ◌++◌, map, length, drop, Some, None, Option, nat_lt, slice_index, slice_set}
+use Rattle.std.specs.Prelude.{ℕ, ◌+◌, ◌<◌, Bool, true, false, List, [], ◌∷◌, ◌++◌, map, length, drop, Some, None, Option, Ok, Err, Result, nat_lt, slice_index, slice_set}
+use Rattle.std.specs.Coded.{×_prop, Unit-prop, le_prop}
 use Rattle.algebra.specs.Ring.{multiple}
 use Rattle.algebra.specs.Polynomial.{value, Each}
 use Rattle.numbers.specs.Systems.{Sys}
@@ -8,7 +9,7 @@ use Rattle.numbers.specs.declared.refusal.Refusal.TheVariants.{OverLimit, FullSh
 use Rattle.reading.specs.declared.calls.Call.{Call}
 use Rattle.reading.specs.declared.calls.Call.TheVariants.{Append, Drop, Replace, Look}
 use Rattle.reading.specs.declared.calls.Answer.{Answer}
-use Rattle.reading.specs.declared.calls.Answer.TheVariants.{Count, Entry, Seen, Refused}
+use Rattle.reading.specs.declared.calls.Answer.TheVariants.{Count, Entry, Seen}
 
 -- the most entries that a sheet holds
 abbrev pub most : ℕ
@@ -48,9 +49,9 @@ reply s x L Look = Seen (length L) (sum_of s x L)
 abbrev pub changed : Sys → List ℕ → Call → List ℕ
 changed s L c = elim (refusal s L c) [ None ↦ taken L c | Some q ↦ L ]
 
--- the answer to a call: its refusal, if it is refused
-abbrev pub told : (s : Sys) → s.Elem → List ℕ → Call → Answer s.Elem
-told s x L c = elim (refusal s L c) [ None ↦ reply s x L c | Some q ↦ Refused q ]
+-- the answer to a call, or its refusal
+abbrev pub told : (s : Sys) → s.Elem → List ℕ → Call → Result (Answer s.Elem) Refusal
+told s x L c = elim (refusal s L c) [ None ↦ Ok (reply s x L c) | Some q ↦ Err q ]
 
 -- the list after any calls, one after another
 unfoldable pub after : Sys → List ℕ → List Call → List ℕ
@@ -58,17 +59,21 @@ after s L [] = L
 after s L (c ∷ cs) = after s (changed s L c) cs
 
 -- the answers to any calls, one after another
-unfoldable pub answers : (s : Sys) → s.Elem → List ℕ → List Call → List (Answer s.Elem)
+unfoldable pub answers : (s : Sys) → s.Elem → List ℕ → List Call → List (Result (Answer s.Elem) Refusal)
 answers s x L [] = []
 answers s x L (c ∷ cs) = told s x L c ∷ answers s x (changed s L c) cs
 
 -- an answer with its element by what it means
-abbrev pub said : {A B : Type 0} → (A → B) → Answer A → Answer B
-said mean (Count n) = Count n
-said mean (Entry e) = Entry e
-said mean (Seen n v) = Seen n (mean v)
-said mean (Refused q) = Refused q
+abbrev pub said : {A B : Type 0} → (A → B) → Result (Answer A) Refusal → Result (Answer B) Refusal
+said mean (Ok (Count n)) = Ok (Count n)
+said mean (Ok (Entry e)) = Ok (Entry e)
+said mean (Ok (Seen n v)) = Ok (Seen n (mean v))
+said mean (Err q) = Err q
 
 -- each entry is below the limit
 abbrev pub Below : ℕ → List ℕ → Type 0
 Below limit L = Each (λ e. e < limit) L
+
+pub Below_prop : (limit : ℕ) (L : List ℕ) → IsProp (Below limit L)
+Below_prop limit [] = Unit-prop
+Below_prop limit (e ∷ L) = ×_prop le_prop (Below_prop limit L)

@@ -1,53 +1,49 @@
--- The sheet that a reading holds, and what is true of every reading that was begun from a drawn point.
-use Rattle.std.specs.Prelude.{◌≡◌, ℕ, zero, suc, ◌+◌, ◌%◌, List, [], ◌∷◌, Some, None, slice_index}
+-- The sheet that a reading holds, what is true of every reading, and what its calls leave of it.
+use Rattle.std.specs.Prelude.{◌≡◌, ℕ, List, Some, None, Ok, Err, Result}
 use Rattle.algebra.specs.Ring.{power}
 use Rattle.algebra.specs.Units.{Inverts}
 use Rattle.numbers.specs.Systems.{Sys}
 use Rattle.numbers.specs.declared.refusal.Refusal.{Refusal}
-use Rattle.reading.specs.Sheet.{most, sum_of, refusal, taken, Below}
+use Rattle.reading.specs.Sheet.{sum_of, refusal, taken, Below}
+use Rattle.reading.specs.Windows.{window}
 use Rattle.reading.specs.declared.calls.Call.{Call}
 use Rattle.reading.specs.declared.calls.Answer.{Answer}
-use Rattle.reading.specs.declared.calls.Answer.TheVariants.{Count, Entry, Seen, Refused}
+use Rattle.reading.specs.declared.calls.Answer.TheVariants.{Count, Entry, Seen}
 use Rattle.reading.specs.declared.states.Reading.{Reading}
 use Rattle.reading.specs.declared.states.Figure.{Figure}
 
--- the n numbers of a table from the place i on, going round at its end
-unfoldable pub window : List ℕ → ℕ → ℕ → List ℕ
-window t i zero = []
-window t i (suc n) = slice_index t (i % most) ∷ window t (i + 1) n
-
 -- the sheet that a reading holds
-abbrev pub sheet : {S : Type 0} → Reading S → List ℕ
+abbrev pub sheet : {S : Type 0} {G : _} → Reading S G → List ℕ
 sheet r = window r.table r.start r.count
 
--- The inverse is the element's, the sum is the sheet's, the power is the element's to the count, and every entry is below the limit.
-pub record Sound {S : Type 0} (s : Sys) (mean : S → s.Elem) (r : Reading S) : Type 0 where
+-- The inverse is the element's, the sum is the sheet's, the power is the element to the count, and every entry is below the limit.
+pub record Sound {S : Type 0} {G : _} (s : Sys) (mean : S → s.Elem) (r : Reading S G) : Type 0 where
   pub inverts : Inverts s.ops (mean r.element) (mean r.inverse)
   pub summed : mean r.sum ≡ sum_of s (mean r.element) (sheet r)
   pub raised : mean r.power ≡ power s.ops (mean r.element) r.count
   pub below : Below s.limit (sheet r)
 
 -- a later state of a reading is at the same point
-pub record SamePoint {S : Type 0} (before later : Reading S) : Type 0 where
+pub record SamePoint {S : Type 0} {G : _} (before later : Reading S G) : Type 0 where
   pub element : later.element ≡ before.element
   pub inverse : later.inverse ≡ before.inverse
 
 -- the sheet takes the call, and the reading then holds the list that is left
-pub record Accepts {S : Type 0} (s : Sys) (c : Call) (before later : Reading S) : Type 0 where
+pub record Accepts {S : Type 0} {G : _} (s : Sys) (c : Call) (before later : Reading S G) : Type 0 where
   pub accepted : refusal s (sheet before) c ≡ None
   pub list : sheet later ≡ taken (sheet before) c
 
 -- the sheet refuses the call with q, and nothing of the reading has changed
-pub record Refuses {S : Type 0} (s : Sys) (c : Call) (q : Refusal) (before later : Reading S) : Type 0 where
+pub record Refuses {S : Type 0} {G : _} (s : Sys) (c : Call) (q : Refusal) (before later : Reading S G) : Type 0 where
   pub refused : refusal s (sheet before) c ≡ Some q
   pub unchanged : later ≡ before
 
 -- a look and a refusal leave the reading as it was
-abbrev pub Leaves : {S : Type 0} → Answer S → Reading S → Reading S → Type 0
-Leaves (Count n) before later = Unit {0}
-Leaves (Entry e) before later = Unit {0}
-Leaves (Seen n v) before later = later ≡ before
-Leaves (Refused q) before later = later ≡ before
+abbrev pub Leaves : {S : Type 0} {G : _} → Result (Answer S) Refusal → Reading S G → Reading S G → Type 0
+Leaves (Ok (Count n)) before later = Unit {0}
+Leaves (Ok (Entry e)) before later = Unit {0}
+Leaves (Ok (Seen n v)) before later = later ≡ before
+Leaves (Err q) before later = later ≡ before
 
 -- Two figures are alike: the elements are the same, the counts and the sums.
 pub record Alike {S : Type 0} (s : Sys) (mean : S → s.Elem) (f g : Figure S) : Type 0 where

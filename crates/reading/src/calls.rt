@@ -1,6 +1,4 @@
-// The calls that are made of an open reading, and the answers to them, as values.
-use numbers::refusal::Refusal;
-
+// The calls that are made of an open reading, and the answers to those that are not refused, as values.
 #[derive(Clone, Copy)]
 pub enum Call {
     // put an entry at the end
@@ -21,6 +19,4 @@ pub enum Answer<S> {
     Entry(u64),
     // to a look: the count and the sum
     Seen(usize, S),
-    // to any call that is refused
-    Refused(Refusal),
 }

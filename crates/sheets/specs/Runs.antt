@@ -1,5 +1,5 @@
 -- What a whole reading answers and leaves, and when it is refused.
-use Rattle.std.specs.Prelude.{◌≡◌, ℕ, List, [], map, length}
+use Rattle.std.specs.Prelude.{◌≡◌, ℕ, List, [], map, length, Result}
 use Rattle.algebra.specs.Ring.{Ops}
 use Rattle.algebra.specs.Units as U
 use Rattle.algebra.specs.Units.{Inverts}
@@ -17,7 +17,7 @@ pub record OnlyInverse {A : Type 0} (o : Ops A) (a b : A) : Type 0 where
   pub only : (c : A) → Inverts o a c → c ≡ b
 
 -- After these calls from a sheet without entries, the answers are the plain sheet's, and the figure has the element with that sheet's count and sum there.
-pub record AsPlainSheet {S : Type 0} (s : Sys) (mean : S → s.Elem) (x : S) (calls : List Call) (given : List (Answer S)) (f : Figure S) : Type 0 where
+pub record AsPlainSheet {S : Type 0} (s : Sys) (mean : S → s.Elem) (x : S) (calls : List Call) (given : List (Result (Answer S) Refusal)) (f : Figure S) : Type 0 where
   pub answered : map (said mean) given ≡ answers s (mean x) [] calls
   pub element : f.element ≡ x
   pub count : f.count ≡ length (after s [] calls)

@@ -14,8 +14,8 @@ use reading::states::{Figure, MOST};
 fn check_limit<S: System>(entries: &[u64]) -> Result<(), Refusal>
     ensures { elim result [ Ok _ ↦ Below S.sys.limit entries.now | Err q ↦ (q ≡ Refusal.OverLimit) × (Below S.sys.limit entries.now → ⊥) ] }
 {
-    for i in 0..entries.len() {
-        let _ = S::entry(entries[i])?;
+    for &e in entries {
+        let _ = S::entry(e)?;
     }
     Ok(())
 }
@@ -26,10 +26,9 @@ fn figure_at<S: System>(x: S, entries: &[u64]) -> Result<Figure<S>, Refusal>
     requires fits { length entries.now ≤ most }
     ensures { elim result [ Ok f ↦ IsUnit S.sys.ops (S.mean x) × (f.element ≡ x) × (f.count ≡ length entries.now) × (S.mean f.sum ≡ sum_of S.sys (S.mean x) entries.now) | Err q ↦ (q ≡ Refusal.NoInverse) × NoInverse S.sys.ops (S.mean x) ] }
 {
-    let point = draw(x)?;
-    let mut reading = point.begin();
-    for i in 0..entries.len() {
-        let _ = reading.append(entries[i])?;
+    let mut reading = draw(x)?.begin();
+    for &e in entries {
+        let _ = reading.append(e)?;
     }
     Ok(reading.close())
 }
@@ -48,18 +47,14 @@ pub fn compare<S: System>(points: &[S], left: &[u64], right: &[u64]) -> Result<b
 {
     check_limit::<S>(left)?;
     check_limit::<S>(right)?;
-    let long = left.len() > MOST || right.len() > MOST;
-    if long {
+    if left.len() > MOST || right.len() > MOST {
         return Err(Refusal::FullSheet);
     }
     let mut alike = left.len() == right.len();
-    for i in 0..points.len() {
-        let x = points[i];
-        let left_figure = figure_at(x, left)?;
-        let right_figure = figure_at(x, right)?;
-        if !left_figure.alike(&right_figure) {
-            alike = false;
-        }
+    for x in points {
+        let left_figure = figure_at(*x, left)?;
+        let right_figure = figure_at(*x, right)?;
+        alike &= left_figure.alike(&right_figure);
     }
     Ok(alike)
 }

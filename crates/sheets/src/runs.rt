@@ -1,7 +1,7 @@
 // A whole reading: any calls, one after another, from a point that is drawn to the figure that is left.
 ghost use Rattle.std.specs.Prelude.{◌≡◌, map, length, Ok, Err};
 ghost use Rattle.reading.specs.Sheet.{after, answers, said};
-ghost use Rattle.reading.specs.Sound.{Sound, sheet};
+ghost use Rattle.reading.specs.Sound.{sheet};
 ghost use Rattle.sheets.specs.Agreement.{Agreement};
 ghost use Rattle.sheets.specs.Runs.{OnlyInverse, AsPlainSheet, Refused};
 
@@ -19,16 +19,15 @@ pub struct Run<S: System> {
 }
 
 // Makes the calls one after another, and puts down the answer to each.
-fn play<S: System>(reading: &mut Reading<S>, calls: &[Call], out: &mut [Answer<S>])
-    requires sound { Sound S.sys S.mean reading.old }
-    requires places { length out.old ≡ length calls.now }
-    ensures sound { Sound S.sys S.mean reading.new }
+fn play<S: System>(reading: &mut Reading<S>, calls: &[Call], out: &mut [Result<Answer<S>, Refusal>])
+    requires { length out.old ≡ length calls.now }
     ensures point { reading.new.element ≡ reading.old.element }
     ensures list { sheet reading.new ≡ after S.sys (sheet reading.old) calls.now }
     ensures answers { map (said S.mean) out.new ≡ answers S.sys (S.mean reading.old.element) (sheet reading.old) calls.now }
 {
-    for i in 0..out.len() {
-        out[i] = reading.call(calls[i]);
+    // by places, since a proof knows nothing of what is written through an adapter of `iter_mut`
+    for (i, call) in calls.iter().enumerate() {
+        out[i] = reading.call(*call);
     }
 }
 
@@ -39,13 +38,16 @@ fn play<S: System>(reading: &mut Reading<S>, calls: &[Call], out: &mut [Answer<S
 // runs: the answers are the plain sheet's to the same calls, whatever they are, and the figure has the element with that sheet's count and sum there.
 // agreement: two sheets of equally many entries that any such calls have read at as many points or more, and that show equal sums at each of them, are
 // equal entry for entry, if any two of the points differ by a unit.
-pub fn read<S: System>(x: S, calls: &[Call], out: &mut [Answer<S>]) -> Result<Run<S>, Refusal>
+pub fn read<S: System>(
+    x: S,
+    calls: &[Call],
+    out: &mut [Result<Answer<S>, Refusal>],
+) -> Result<Run<S>, Refusal>
     ensures inverse { elim result [ Ok run ↦ OnlyInverse S.sys.ops (S.mean x) (S.mean run.inverse) | Err q ↦ Refused S.sys (S.mean x) (length calls.now) (length out.old) q ] }
     ensures runs { elim result [ Ok run ↦ AsPlainSheet S.sys S.mean x calls.now out.new run.figure | Err q ↦ out.new ≡ out.old ] }
     ensures agreement { Agreement S.sys }
 {
-    let cut = out.len() != calls.len();
-    if cut {
+    if out.len() != calls.len() {
         return Err(Refusal::CutList);
     }
     let point = draw(x)?;

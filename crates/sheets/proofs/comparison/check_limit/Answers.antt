@@ -5,9 +5,9 @@ use Rattle.reading.proofs.Sums.{below_at}
 use Rattle.sheets.proofs.Points.{each_more}
 use Rattle.sheets.proofs.comparison.check_limit.Goals as goal
 
-pub loop-i-preserved : goal.loop-i-preserved
-loop-i-preserved g c =
-    each_more (λ e. e < g.S.System.sys.limit) c.args.entries.now c.loop-i.i 0 c.loop-i-test.true c.loop-i.invariant c.in_ok-entry.ensures.0
+pub loop-e-preserved : goal.loop-e-preserved
+loop-e-preserved g c =
+    each_more (λ e. e < g.S.System.sys.limit) c.args.entries.now c.loop-e.e-index 0 c.loop-e-test.true c.loop-e.invariant c.in_ok-entry.ensures.0
 
 pub returns-in_err-entry : goal.returns-in_err-entry
 returns-in_err-entry g c =
@@ -16,9 +16,9 @@ returns-in_err-entry g c =
     rw (p.1, p.2) (
       over.1,
       λ below.
-          let under = below_at g.S.System.sys.limit c.args.entries.now c.loop-i.i below c.loop-i-test.true in
+          let under = below_at g.S.System.sys.limit c.args.entries.now c.loop-e.e-index below c.loop-e-test.true in
           omega (arith, under, over.0),
     )
 
 pub returns : goal.returns
-returns g c = subst (Below g.S.System.sys.limit) (take_all c.loop-i.i c.args.entries.now c.loop-i-test.false) c.loop-i.invariant
+returns g c = subst (Below g.S.System.sys.limit) (take_all c.loop-e.e-index c.args.entries.now c.loop-e-test.false) c.loop-e.invariant

@@ -4,9 +4,9 @@ use Rattle.algebra.specs.Units.{IsUnit}
 use Rattle.sheets.specs.Comparisons.{SameFigures}
 use Rattle.sheets.proofs.comparison.compare.Given as goal
 
--- the first i points are units, and `alike` tells whether the figures are the same at them
-abbrev pub invariant-loop-i : goal.invariant-loop-i
-invariant-loop-i g l =
+-- the points so far are units, and `alike` tells whether the figures are the same at them
+abbrev pub invariant-loop-x : goal.invariant-loop-x
+invariant-loop-x g l =
     let s = g.S.System.sys in
-    let points = take l.i (map g.S.System.mean l.points) in
+    let points = take l.x-index (map g.S.System.mean l.points) in
     Each (IsUnit s.ops) points × (T l.alike → SameFigures s points l.left l.right) × (SameFigures s points l.left l.right → T l.alike)

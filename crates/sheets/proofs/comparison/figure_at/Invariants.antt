@@ -1,10 +1,8 @@
 use Rattle.std.proofs.Common.{◌≡◌, take}
-use Rattle.reading.specs.Sound.{Sound, sheet}
+use Rattle.reading.specs.Sound.{sheet}
 use Rattle.sheets.proofs.comparison.figure_at.Given as goal
 
--- the reading is sound, at its element, and has read the first i entries
-abbrev pub invariant-loop-i : goal.invariant-loop-i
-invariant-loop-i g l =
-    (Sound g.S.System.sys g.S.System.mean l.reading)
-    × (l.reading.element ≡ l.initial.reading.element)
-    × (sheet l.reading ≡ take l.i l.entries)
+-- the reading is at its element, and has read the entries so far
+abbrev pub invariant-loop-e : goal.invariant-loop-e
+invariant-loop-e g l =
+    (l.reading.element ≡ l.initial.reading.element) × (sheet l.reading ≡ take l.e-index l.entries)

@@ -8,7 +8,7 @@ use Rattle.sheets.proofs.runs.play.Goals as goal
 
 pub loop-i-init : goal.loop-i-init
 unfolding after answers
-loop-i-init g c = (c.requires.sound, refl, refl, refl, c.requires.places)
+loop-i-init g c = (refl, refl, refl, c.requires)
 
 pub loop-i-preserved : goal.loop-i-preserved
 loop-i-preserved g c =
@@ -24,14 +24,13 @@ loop-i-preserved g c =
     let more = take_more cs i (Append 0) here in
     let room : i < length c.loop-i.out = omega arith in
     let wrote = take_more_set c.loop-i.out i c.call.result room in
-    let list = c.call.ensures.list inv.0 ∙ ap (λ l. changed s l k) inv.2 in
-    let answer = c.call.ensures.answer inv.0 ∙ ap₂ (λ y l. told s (m y) l k) inv.1 inv.2 in (
-      c.call.ensures.sound inv.0,
-      c.call.ensures.point.element ∙ inv.1,
+    let list = c.call.ensures.list ∙ ap (λ l. changed s l k) inv.1 in
+    let answer = c.call.ensures.answer ∙ ap₂ (λ y l. told s (m y) l k) inv.0 inv.1 in (
+      c.call.ensures.point.element ∙ inv.0,
       list ∙ sym (ap (after s L) more ∙ after_more s L (take i cs) k),
-      ap (map (said m)) wrote ∙ map_push (said m) (take i c.loop-i.out) c.call.result ∙ ap₂ (λ l a. l ++ (a ∷ [])) inv.3 answer
+      ap (map (said m)) wrote ∙ map_push (said m) (take i c.loop-i.out) c.call.result ∙ ap₂ (λ l a. l ++ (a ∷ [])) inv.2 answer
           ∙ sym (ap (answers s x L) more ∙ answers_more s x L (take i cs) k),
-      length-set c.loop-i.out i c.call.result ∙ inv.4,
+      length-set c.loop-i.out i c.call.result ∙ inv.3,
     )
 
 pub returns : goal.returns
@@ -46,8 +45,7 @@ returns g c =
     let room : length c.loop-i.out ≤ c.loop-i.i = omega arith in
     let out = take_all c.loop-i.i c.loop-i.out room in
     record {
-      sound = inv.0;
-      point = inv.1;
-      list = inv.2 ∙ ap (after s L) calls;
-      answers = sym (ap (map (said m)) out) ∙ inv.3 ∙ ap (answers s x L) calls;
+      point = inv.0;
+      list = inv.1 ∙ ap (after s L) calls;
+      answers = sym (ap (map (said m)) out) ∙ inv.2 ∙ ap (answers s x L) calls;
     }

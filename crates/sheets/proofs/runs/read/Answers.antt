@@ -6,16 +6,8 @@ use Rattle.reading.specs.Sheet.{sum_of, after, answers}
 use Rattle.sheets.proofs.Sheets.{agreement}
 use Rattle.sheets.proofs.runs.read.Goals as goal
 
-pub play-requires : goal.play-requires
-play-requires g c =
-    let drawn = c.in_ok-point.ensures in
-    let o = g.S.System.sys.ops in
-    let m = g.S.System.mean in
-    let inverts = subst (λ y. Inverts o (m y) (m c.in_ok-point.point.inverse)) (sym drawn.0) drawn.1 in
-    record { sound = c.begin-reading.ensures.sound inverts; places = omega arith }
-
-pub returns-then-cut : goal.returns-then-cut
-returns-then-cut g c = record { inverse = λ same. omega arith; runs = refl; agreement = agreement g.S.System.sys g.met.S.System.lawful }
+pub returns-then-out-calls-clause-agreement : goal.returns-then-out-calls-clause-agreement
+returns-then-out-calls-clause-agreement g c = agreement g.S.System.sys g.met.S.System.lawful
 
 pub returns-in_err-point : goal.returns-in_err-point
 returns-in_err-point g c =
@@ -47,7 +39,7 @@ returns g c =
         answered = c.play.ensures.answers ∙ ap₂ (λ y L. answers s (m y) L cs) same begun.empty;
         element = c.close-figure.ensures.element ∙ point;
         count = c.close-figure.ensures.count ∙ ap length list;
-        sum = c.close-figure.ensures.sum c.play.ensures.sound ∙ ap₂ (λ y L. sum_of s (m y) L) point list;
+        sum = c.close-figure.ensures.sum ∙ ap₂ (λ y L. sum_of s (m y) L) point list;
       };
       agreement = agreement s W;
     }

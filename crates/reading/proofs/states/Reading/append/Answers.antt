@@ -1,50 +1,59 @@
-use Rattle.std.proofs.Common.{◌≡◌, ◌+◌, ◌<◌, ◌≤◌, length, sym, refl, ap, ◌∙◌, subst, ap₂, add-one, arith, rules, leb-false, leb-true}
+use Rattle.std.proofs.Common.{◌≡◌, ◌+◌, ◌<◌, ◌≤◌, length, sym, refl, ap, subst, ◌∙◌, ap₂, add-one, arith, rules}
 use Rattle.algebra.specs.Ring.{power}
 use Rattle.reading.specs.Sheet.{most, sum_of, Below}
-use Rattle.reading.specs.Sound.{window}
+use Rattle.reading.specs.Sound.{sheet}
 use Rattle.reading.proofs.Refusals.{append_taken, append_full}
+use Rattle.reading.proofs.Soundness.{sound}
 use Rattle.reading.proofs.Sums.{sum_append, power_next, below_append}
 use Rattle.reading.proofs.Windows.{window_length, window_append}
 use Rattle.reading.proofs.states.Reading.append.Goals as goal
 
-pub returns-then-full : goal.returns-then-full
-returns-then-full g c =
+pub returns-then-self-ge-MOST-clause-answer : goal.returns-then-self-ge-MOST-clause-answer
+returns-then-self-ge-MOST-clause-answer g c =
     let s = c.args.self.now in
-    let L = window s.table s.start s.count in
-    let sized : length L ≡ s.count = window_length s.table s.start s.count in
-    let full : most ≤ length L = omega (arith, leb-true) in
-    record {
-      sound = λ sound. sound;
-      point = record { element = refl; inverse = refl };
-      answer = record { refused = append_full g.S.System.sys L c.args.e c.in_ok-value.ensures.0 full; unchanged = refl };
-    }
+    let full : most ≤ length (sheet s) = omega (arith, window_length s.table s.start s.count) in
+    record { refused = append_full g.S.System.sys (sheet s) c.args.e c.in_ok-value.ensures.0 full; unchanged = refl }
 
-pub returns : goal.returns
-returns g c =
+pub invariant_of-self-clause-summed : goal.invariant_of-self-clause-summed
+invariant_of-self-clause-summed g c =
     let sys = g.S.System.sys in
     let o = sys.ops in
-    let W = g.met.S.System.lawful.ring in
-    let m = g.S.System.mean in
+    let W = g.met.S.System.lawful in
     let s = c.args.self.now in
-    let e = c.args.e in
-    let x = m s.element in
-    let L = window s.table s.start s.count in
+    let x = g.S.System.mean s.element in
     let len : length s.table ≡ most = search rules in
-    let room : s.count < most = omega (arith, leb-false) in
-    let sized : length L ≡ s.count = window_length s.table s.start s.count in
-    let fits : length L < most = omega arith in
-    let v = c.in_ok-value.ensures in
-    let list = window_append s.table s.start s.count e len room in
-    record {
-      sound = λ sound. record {
-        inverts = sound.inverts;
-        summed =
-            c.add-self.ensures
-            ∙ ap₂ o.add sound.summed (c.mul.ensures ∙ ap₂ o.mul v.1 (sound.raised ∙ ap (power o x) (sym sized)))
-            ∙ sym (ap (sum_of sys x) list ∙ sum_append o W x L e);
-        raised = c.mul-self.ensures ∙ ap (λ p. o.mul p x) sound.raised ∙ power_next o W x s.count ∙ ap (power o x) (sym (add-one s.count));
-        below = subst (Below sys.limit) (sym list) (below_append sys.limit L e sound.below v.0);
-      };
-      point = record { element = refl; inverse = refl };
-      answer = (ap (λ n. n + 1) (sym sized), record { accepted = append_taken sys L e v.0 fits; list = list });
-    }
+    let list = window_append s.table s.start s.count c.args.e len c.if-self-ge-MOST.false in
+    let raised = (sound s W).raised ∙ ap (power o x) (sym (window_length s.table s.start s.count)) in
+    ∣ c.add-self.ensures
+    ∙ ap₂ o.add (sound s W).summed (c.mul.ensures ∙ ap₂ o.mul c.in_ok-value.ensures.1 raised)
+    ∙ sym (ap (sum_of sys x) list ∙ sum_append o W.ring x (sheet s) c.args.e) ∣₁
+
+pub invariant_of-self-clause-raised : goal.invariant_of-self-clause-raised
+invariant_of-self-clause-raised g c =
+    let sys = g.S.System.sys in
+    let o = sys.ops in
+    let W = g.met.S.System.lawful in
+    let s = c.args.self.now in
+    let x = g.S.System.mean s.element in
+    ∣ c.mul-self.ensures ∙ ap (λ p. o.mul p x) (sound s W).raised ∙ power_next o W.ring x s.count ∙ ap (power o x) (sym (add-one s.count)) ∣₁
+
+pub invariant_of-self-clause-below : goal.invariant_of-self-clause-below
+invariant_of-self-clause-below g c =
+    let s = c.args.self.now in
+    let len : length s.table ≡ most = search rules in
+    let list = window_append s.table s.start s.count c.args.e len c.if-self-ge-MOST.false in
+    subst (Below g.S.System.sys.limit) (sym list) (below_append g.S.System.sys.limit (sheet s) c.args.e s.below c.in_ok-value.ensures.0)
+
+pub returns-clause-answer : goal.returns-clause-answer
+returns-clause-answer g c =
+    let s = c.args.self.now in
+    let len : length s.table ≡ most = search rules in
+    let room = c.if-self-ge-MOST.false in
+    let sized = window_length s.table s.start s.count in
+    let fits : length (sheet s) < most = omega (arith, sized, room) in (
+      ap (λ n. n + 1) (sym sized),
+      record {
+        accepted = append_taken g.S.System.sys (sheet s) c.args.e c.in_ok-value.ensures.0 fits;
+        list = window_append s.table s.start s.count c.args.e len room;
+      },
+    )
