@@ -3,7 +3,7 @@ ghost use Rattle.std.proofs.Common.{lit≤, lit<};
 ghost use Rattle.std.specs.Prelude.{◌≡◌, ℕ};
 ghost use Rattle.bases.specs.Bounds.{Bounds};
 
-// A type that stands for a modulus m, from 2 to 2^31 − 1.
+// A type that stands for a modulus m, from 2 to 2^31 − 1. It is a type for each m and not one with a const parameter: a parameter could not bring the proof that it is in range.
 pub trait Modulus {
     // The modulus m.
     const MODULUS: u32;

@@ -1,6 +1,6 @@
 -- What a line comes to: the answer to it, and how the answer is written.
-use Rattle.std.specs.Prelude.{◌≡◌, ℕ, ◌+◌, ◌-◌, ◌^◌, ◌<◌, min, ◌⊎◌, List, ◌++◌, length, vec_items, codes, decimal, slice_index}
-use Rattle.numbers.specs.Refusals.{number_of, word_of}
+use Rattle.std.specs.Prelude.{◌≡◌, ℕ, ◌+◌, ◌-◌, ◌^◌, ◌<◌, min, ◌⊎◌, List, ◌++◌, length, vec_items, codes, slice_index}
+use Rattle.numbers.specs.Refusals.{text_of}
 use Rattle.calculator.specs.Text.{words, listing}
 use Rattle.calculator.specs.Commands.{Writes, Because, Nothing, reason_text}
 use Rattle.calculator.specs.Results.{GivesList, Stops, system_of}
@@ -22,7 +22,7 @@ Answers line (Unreadable why) = Because (words line) why × Nothing (words line)
 -- how an answer is written
 abbrev pub answer_text : Answer → List ℕ
 answer_text (Element v) = listing (vec_items v)
-answer_text (Refused e) = codes "refusal " ++ (decimal (number_of e) ++ (codes " (" ++ (word_of e ++ codes ")")))
+answer_text (Refused e) = text_of e
 answer_text (Unreadable why) = codes "unreadable: " ++ reason_text why
 
 -- a line of spaces, or one that begins with #, is passed over

@@ -65,11 +65,7 @@ impl fmt::Display for Answer {
     fn fmt<W: fmt::Write>(&self, f: &mut fmt::Formatter<W>) -> fmt::Result {
         match self {
             Answer::Element(numbers) => NumberList(numbers).fmt(f),
-            Answer::Refused(refusal) => {
-                let number = refusal.number();
-                let word = refusal.word();
-                write!(f, "refusal {number} ({word})")
-            }
+            Answer::Refused(refusal) => refusal.fmt(f),
             Answer::Unreadable(reason) => write!(f, "unreadable: {reason}"),
         }
     }

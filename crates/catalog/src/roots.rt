@@ -1,18 +1,18 @@
-// The roots of one by which the extensions of degrees 2, 3, 4 and 8 have conjugates: z is w^((q − 1)/D), with q the number of elements below. The degrees 5 have theirs
-// among their constants; the split extension has none.
+// The roots of one by which the extensions by a root of X^n − w have conjugates: z is w^((q − 1)/n), with q the number of elements below. The split extension has none.
 ghost use Rattle.std.proofs.Common.{lit<};
 
-use crate::constants::{Complex, FiveI, MinusOne, Three};
-use bases::modulus::{KoalaBear, Mersenne31};
+use crate::constants::{Complex, FiveI, MinusOne, Whole};
+use bases::modulus::{BabyBear, Eleven, KoalaBear, Mersenne31};
 use bases::residue::Residue;
-use cubic::conjugates::CubicConjugates;
-use octic::conjugates::OcticConjugates;
-use quadratic::conjugates::QuadraticConjugates;
+use cubic::triple::Triple;
+use extensions::binomial::RootConstants;
+use extensions::element::Element;
+use octic::octuple::Octuple;
 use quadratic::pair::Pair;
-use quadratic::quadratic::Quadratic;
-use quartic::conjugates::QuarticConjugates;
+use quartic::quadruple::Quadruple;
+use quintic::quintuple::Quintuple;
 
-impl QuarticConjugates<Residue<KoalaBear>> for Three {
+impl RootConstants<Quadruple<Residue<KoalaBear>>, Residue<KoalaBear>> for Whole<3> {
     ghost z = { record { value = 2113994754; mark = record {}; small = lit< tt } };
 
     fn z() -> Residue<KoalaBear> {
@@ -20,7 +20,7 @@ impl QuarticConjugates<Residue<KoalaBear>> for Three {
     }
 }
 
-impl OcticConjugates<Residue<KoalaBear>> for Three {
+impl RootConstants<Octuple<Residue<KoalaBear>>, Residue<KoalaBear>> for Whole<3> {
     ghost z = { record { value = 1748172362; mark = record {}; small = lit< tt } };
 
     fn z() -> Residue<KoalaBear> {
@@ -28,7 +28,7 @@ impl OcticConjugates<Residue<KoalaBear>> for Three {
     }
 }
 
-impl QuadraticConjugates<Residue<Mersenne31>> for MinusOne {
+impl RootConstants<Pair<Residue<Mersenne31>>, Residue<Mersenne31>> for MinusOne {
     ghost z = { record { value = 2147483646; mark = record {}; small = lit< tt } };
 
     fn z() -> Residue<Mersenne31> {
@@ -36,16 +36,29 @@ impl QuadraticConjugates<Residue<Mersenne31>> for MinusOne {
     }
 }
 
-impl CubicConjugates<Complex> for FiveI {
-    ghost z = { record { value = record { c0 = record { value = 634005911; mark = record {}; small = lit< tt }; c1 = record { value = 0; mark = record {}; small = lit< tt } }; mark = record {} } };
+impl RootConstants<Triple<Complex>, Complex> for FiveI {
+    ghost z = { record { value = record { c0 = record { value = 634005911; mark = record {}; small = lit< tt }; c1 = record { value = 0; mark = record {}; small = lit< tt } }; below = record {}; rule = record {} } };
 
     fn z() -> Complex {
-        Quadratic {
-            value: Pair {
-                c0: Residue::of(634_005_911),
-                c1: Residue::of(0),
-            },
-            mark: MinusOne,
-        }
+        Element::new(Pair {
+            c0: Residue::of(634_005_911),
+            c1: Residue::of(0),
+        })
+    }
+}
+
+impl RootConstants<Quintuple<Residue<BabyBear>>, Residue<BabyBear>> for Whole<31> {
+    ghost z = { record { value = 645581151; mark = record {}; small = lit< tt } };
+
+    fn z() -> Residue<BabyBear> {
+        Residue::of(645_581_151)
+    }
+}
+
+impl RootConstants<Quintuple<Residue<Eleven>>, Residue<Eleven>> for Whole<2> {
+    ghost z = { record { value = 4; mark = record {}; small = lit< tt } };
+
+    fn z() -> Residue<Eleven> {
+        Residue::of(4)
     }
 }

@@ -59,7 +59,7 @@ fn koala_bear_row(numbers: &[u32; 5]) -> Quintuple<Residue<KoalaBear>>
 }
 
 // The trinomial's constants over 2130706433.
-#[derive(Clone, Copy, Default)]
+#[derive(Clone, Copy)]
 pub struct KoalaBearTable;
 
 impl TrinomialConstants<Residue<KoalaBear>> for KoalaBearTable {
@@ -75,7 +75,7 @@ impl TrinomialConstants<Residue<KoalaBear>> for KoalaBearTable {
     }
 }
 
-// A row of bits.
+// A row of bits. It is not one function with the row of residues: a residue is made of a number, a bit of a truth value.
 fn bit_row(c0: bool, c1: bool, c2: bool, c3: bool, c4: bool) -> Quintuple<Bit>
     ensures { result ≡ record { c0 = record { on = c0 }; c1 = record { on = c1 }; c2 = record { on = c2 }; c3 = record { on = c3 }; c4 = record { on = c4 } } }
 {
@@ -89,7 +89,7 @@ fn bit_row(c0: bool, c1: bool, c2: bool, c3: bool, c4: bool) -> Quintuple<Bit>
 }
 
 // The trinomial's constants over the two elements.
-#[derive(Clone, Copy, Default)]
+#[derive(Clone, Copy)]
 pub struct BitTable;
 
 impl TrinomialConstants<Bit> for BitTable {

@@ -78,9 +78,7 @@ pub fn cubic_norm<S: System>(a: &Triple<S>, w: &S) -> S
 pub fn cubic_inv<S: System>(a: &Triple<S>, w: &S) -> Option<Triple<S>>
     ensures { elim result [ Some b ↦ Inverts (binomial_extension 2 S.sys (S.mean w.now)).ops (triple S.mean a.now) (triple S.mean b) | None ↦ NoInverse (binomial_extension 2 S.sys (S.mean w.now)).ops (triple S.mean a.now) ] }
 {
-    let Some(scalar) = cubic_norm(a, w).inverse() else {
-        return None;
-    };
+    let scalar = cubic_norm(a, w).inverse()?;
     let a0_square = a.c0.square();
     let a1_square = a.c1.square();
     let a2_w = w.mul(&a.c2);

@@ -1,35 +1,12 @@
--- The extension of a system by a product extends it: its elements are the tuples themselves.
-use Rattle.std.proofs.Common.{◌≡◌, ℕ, suc, T, sym, refl, ap, ◌∙◌, ap₂}
-use Rattle.algebra.specs.Ring.{Laws}
+-- What follows for systems that extend others.
+use Rattle.std.proofs.Common.{◌≡◌, ℕ, suc, T, sym, ap, ◌∙◌, ap₂}
 use Rattle.algebra.specs.Units.{Inverts}
 use Rattle.numbers.specs.Systems.{Sys, Lawful}
 use Rattle.extensions.specs.Tuples.{Tuple}
-use Rattle.extensions.specs.Conjugates.{embed, scaled}
-use Rattle.extensions.specs.Extensions.{extend, extension, binomial_extension, trinomial_extension}
-use Rattle.extensions.specs.Layers.{Extends}
+use Rattle.extensions.specs.Extensions.{extend, binomial_extension, trinomial_extension}
+use Rattle.extensions.specs.Layers.{Extends, extension_extends}
 use Rattle.extensions.specs.Schoolbook.{binomial, trinomial}
 use Rattle.extensions.proofs.Products.{passes, binomial_laws, binomial_scales, trinomial_laws, trinomial_scales}
-
-abbrev extension_extends : (d : ℕ) (B : Sys) (mul : Tuple (suc d) B.Elem → Tuple (suc d) B.Elem → Tuple (suc d) B.Elem)
-    → Laws (extend d B.ops mul) → ((t : Tuple (suc d) B.Elem) (x : B.Elem) → mul t (embed d B.ops x) ≡ scaled (suc d) B.ops x t)
-    → Extends d B mul (extension d B mul)
-extension_extends d B mul ring scaling = record {
-  tuple = λ x. x;
-  element = λ t. t;
-  tuple_element = λ t. refl;
-  element_tuple = λ x. refl;
-  zero = refl;
-  one = refl;
-  add = λ x y. refl;
-  neg = λ x. refl;
-  mul = λ x y. refl;
-  list = λ x. refl;
-  size = refl;
-  parts = λ l h. h;
-  limit = refl;
-  ring = ring;
-  scaling = scaling;
-}
 
 abbrev pub binomial_extends : (d : ℕ) → T (passes d (λ A o w. binomial (suc d) o w)) → (B : Sys) → Lawful B → (w : B.Elem)
     → Extends d B (binomial (suc d) B.ops w) (binomial_extension d B w)

@@ -1,6 +1,6 @@
 pub mod Tuples
 pub mod Natural
-pub mod Coefficients
+pub mod Written
 pub mod Products
 pub mod Lawful
 pub mod Norms

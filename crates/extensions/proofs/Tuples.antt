@@ -23,6 +23,11 @@ module _ {A : Type 0} (f : A → A → A) where
   both-each z g h N.zero s = refl
   both-each z g h (suc n) s = λ i. (h s.0 i, both-each z g h n s.1 i)
 
+-- f of both elements, where one has been mapped by g
+pub both_of_each : {A : Type 0} (f : A → A → A) (g : A → A) (n : ℕ) (s t : Tuple n A) → both n (λ x y. f x (g y)) s t ≡ both n f s (each n g t)
+both_of_each f g N.zero s t = refl
+both_of_each f g (suc n) s t = λ i. (f s.0 (g t.0), both_of_each f g n s.1 t.1 i)
+
 -- the coefficients of a tabulated tuple, zeros beyond the last
 pub get_or-tabulate : {A : Type 0} (n : ℕ) (f : ℕ → A) (i : ℕ) (z : A) → i < n → get_or (entries n (tabulate n f)) i z ≡ f i
 get_or-tabulate N.zero f i z h = absurd (omega arith)
@@ -42,6 +47,10 @@ sames (suc n) s t = same s.0 t.0 && sames n s.1 t.1
 -- n variables from number s on
 abbrev pub vars : (n s : ℕ) → Tuple n Expr
 vars n s = tabulate n (λ i. var (s + i))
+
+pub true_from_T : (b : Bool) → T b → b ≡ true
+true_from_T true t = refl
+true_from_T false t = absurd t
 
 pub and_left : (a b : Bool) → T (a && b) → T a
 and_left true b t = tt

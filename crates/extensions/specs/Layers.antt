@@ -1,14 +1,18 @@
 -- What it is for a system to be an extension of another, told of any two systems.
-use Rattle.std.specs.Prelude.{◌≡◌, ℕ, suc, ◌*◌, List}
+use Rattle.std.specs.Prelude.{◌≡◌, ℕ, suc, ◌*◌, List, refl}
 use Rattle.algebra.specs.Ring.{Ops, Laws}
 use Rattle.numbers.specs.Systems.{Sys}
 use Rattle.extensions.specs.Tuples.{Tuple, each, both, fill}
 use Rattle.extensions.specs.Conjugates.{embed, scaled}
-use Rattle.extensions.specs.Extensions.{extend, joined, Parts}
+use Rattle.extensions.specs.Extensions.{extend, joined, Parts, extension}
 
 -- a product of tuples as a formula over any operations, in which constants of the type S have a meaning
 abbrev pub Product : ℕ → Type 0 → Type 1
 Product n S = (A : Type 0) → Ops A → (S → A) → Tuple n A → Tuple n A → Tuple n A
+
+-- such a product for tuples of every length
+abbrev pub Products : Type 0 → Type 1
+Products S = (n : ℕ) → Product n S
 
 -- The system s is the extension of degree d + 1 of the system B by a product: elements and tuples of elements of B are the same thing.
 pub record Extends (d : ℕ) (B : Sys) (times : Tuple (suc d) B.Elem → Tuple (suc d) B.Elem → Tuple (suc d) B.Elem) (s : Sys) : Type 0 where
@@ -28,3 +32,25 @@ pub record Extends (d : ℕ) (B : Sys) (times : Tuple (suc d) B.Elem → Tuple (
   -- the tuples are a ring, in which a factor from the layer below multiplies each coefficient
   pub ring : Laws (extend d B.ops times)
   pub scaling : (t : Tuple (suc d) B.Elem) (x : B.Elem) → times t (embed d B.ops x) ≡ scaled (suc d) B.ops x t
+
+-- The extension of a system by a product extends it: its elements are the tuples themselves.
+abbrev pub extension_extends : (d : ℕ) (B : Sys) (mul : Tuple (suc d) B.Elem → Tuple (suc d) B.Elem → Tuple (suc d) B.Elem)
+    → Laws (extend d B.ops mul) → ((t : Tuple (suc d) B.Elem) (x : B.Elem) → mul t (embed d B.ops x) ≡ scaled (suc d) B.ops x t)
+    → Extends d B mul (extension d B mul)
+extension_extends d B mul ring scaling = record {
+  tuple = λ x. x;
+  element = λ t. t;
+  tuple_element = λ t. refl;
+  element_tuple = λ x. refl;
+  zero = refl;
+  one = refl;
+  add = λ x y. refl;
+  neg = λ x. refl;
+  mul = λ x y. refl;
+  list = λ x. refl;
+  size = refl;
+  parts = λ l h. h;
+  limit = refl;
+  ring = ring;
+  scaling = scaling;
+}

@@ -2,10 +2,14 @@
 ghost use Rattle.std.specs.Prelude.{◌≡◌, ℕ, suc, Some, None};
 ghost use Rattle.extensions.specs.Conjugates.{Formula, repeated, conjugates, Conjugation, RootLaw, root_frobenius_map, PseudoInverse, NoPseudoInverse};
 ghost use Rattle.extensions.specs.Extensions.{extend};
+ghost use Rattle.extensions.specs.Schoolbook.{binomial};
 ghost use Rattle.extensions.specs.Tuples.{each};
 
 use crate::below::scale;
+use crate::coefficients::Coefficients;
+use crate::element::Element;
 use crate::extension::Extension;
+use crate::rule::Rule;
 use numbers::powers::{Powers, exp_u64};
 use numbers::system::System;
 
@@ -16,29 +20,57 @@ pub trait Conjugates<S: System>: Extension<S> {
     // The Frobenius image. The map keeps sums and products, gives every element back after as many applications as the degree, and leaves exactly the elements of
     // the layer below where they are.
     fn frobenius(&self) -> Self
-        ensures image { each (suc Self.Extension.d) S.mean (Self.Extension.coefficients result) ≡ conjugate (suc Self.Extension.d) S.sys.Elem S.sys.ops S.mean (each (suc Self.Extension.d) S.mean (Self.Extension.coefficients self.now)) }
-        ensures conjugation { Conjugation Self.Extension.d S.sys.ops (Self.Extension.product S.sys.Elem S.sys.ops S.mean) (conjugate (suc Self.Extension.d) S.sys.Elem S.sys.ops S.mean) };
+        ensures image { each (suc Self.Coefficients.d) S.mean (Self.Coefficients.tuple result) ≡ conjugate (suc Self.Coefficients.d) S.sys.Elem S.sys.ops S.mean (each (suc Self.Coefficients.d) S.mean (Self.Coefficients.tuple self.now)) }
+        ensures conjugation { Conjugation Self.Coefficients.d S.sys.ops (Self.Extension.product (suc Self.Coefficients.d) S.sys.Elem S.sys.ops S.mean) (conjugate (suc Self.Coefficients.d) S.sys.Elem S.sys.ops S.mean) };
 
     // The Frobenius image taken `count` times.
     fn repeated_frobenius(&self, count: u64) -> Self
-        ensures { each (suc Self.Extension.d) S.mean (Self.Extension.coefficients result) ≡ repeated (conjugate (suc Self.Extension.d) S.sys.Elem S.sys.ops S.mean) count (each (suc Self.Extension.d) S.mean (Self.Extension.coefficients self.now)) };
+        ensures { each (suc Self.Coefficients.d) S.mean (Self.Coefficients.tuple result) ≡ repeated (conjugate (suc Self.Coefficients.d) S.sys.Elem S.sys.ops S.mean) count (each (suc Self.Coefficients.d) S.mean (Self.Coefficients.tuple self.now)) };
 }
 
-// The image by a root z of one: coefficient i times z^i.
-pub fn root_frobenius<S: System, E: Extension<S>>(a: &E, z: &S) -> E
-    ensures { each (suc E.d) S.mean (E.coefficients result) ≡ root_frobenius_map (suc E.d) S.sys.ops (S.mean z.now) (each (suc E.d) S.mean (E.coefficients a.now)) }
+// A rule with conjugates: the Frobenius map of the elements that are multiplied by it, as a formula and as functions.
+pub trait ConjugateRule<V: Coefficients<S>, S: System>: Rule<V, S> {
+    ghost conjugate: { Formula S };
+
+    // The Frobenius image, with the promises that `Conjugates` makes.
+    fn frobenius(a: &Element<S, V, Self>) -> Element<S, V, Self>
+        ensures image { each (suc V.d) S.mean (V.tuple result.value) ≡ conjugate (suc V.d) S.sys.Elem S.sys.ops S.mean (each (suc V.d) S.mean (V.tuple a.now.value)) }
+        ensures conjugation { Conjugation V.d S.sys.ops (Self.Rule.product (suc V.d) S.sys.Elem S.sys.ops S.mean) (conjugate (suc V.d) S.sys.Elem S.sys.ops S.mean) };
+
+    // The Frobenius image taken `count` times.
+    fn repeated_frobenius(a: &Element<S, V, Self>, count: u64) -> Element<S, V, Self>
+        ensures { each (suc V.d) S.mean (V.tuple result.value) ≡ repeated (conjugate (suc V.d) S.sys.Elem S.sys.ops S.mean) count (each (suc V.d) S.mean (V.tuple a.now.value)) };
+}
+
+impl<S: System, V: Coefficients<S>, R: ConjugateRule<V, S>> Conjugates<S> for Element<S, V, R> {
+    ghost conjugate = { R.ConjugateRule.conjugate };
+
+    fn frobenius(&self) -> Element<S, V, R> {
+        R::frobenius(self)
+    }
+
+    fn repeated_frobenius(&self, count: u64) -> Element<S, V, R> {
+        R::repeated_frobenius(self, count)
+    }
+}
+
+// The image by a root z of one: coefficient i times z^i. Where z keeps the root law, these images are conjugates in the extension by a root of X^n − w, whatever w is.
+pub fn root_frobenius<S: System, E: Coefficients<S>>(a: &E, z: &S) -> E
+    ensures image { each (suc E.d) S.mean (E.tuple result) ≡ root_frobenius_map (suc E.d) S.sys.ops (S.mean z.now) (each (suc E.d) S.mean (E.tuple a.now)) }
+    ensures conjugation { RootLaw S.sys.ops (suc E.d) (S.mean z.now) → (w : S.sys.Elem) → Conjugation E.d S.sys.ops (binomial (suc E.d) S.sys.ops w) (root_frobenius_map (suc E.d) S.sys.ops (S.mean z.now)) }
 {
+    // by places, since each takes the next power and named fields have no iterator
     let mut powers = Powers::new(*z);
-    let mut res = E::zero();
+    let mut res = E::fill(S::zero());
     for k in 0..E::degree() {
         res.set_coefficient(k, a.coefficient(k).mul(&powers.next()));
     }
     res
 }
 
-// That image taken `count` times, where z keeps the root law: as many applications as the degree give every element back.
-pub fn root_repeated_frobenius<S: System, E: Extension<S>>(a: &E, z: &S, count: u64) -> E
-    ensures { RootLaw S.sys.ops (suc E.d) (S.mean z.now) → each (suc E.d) S.mean (E.coefficients result) ≡ repeated (root_frobenius_map (suc E.d) S.sys.ops (S.mean z.now)) count (each (suc E.d) S.mean (E.coefficients a.now)) }
+// That image taken `count` times, where z keeps the root law, a premise since a function that takes any z asks nothing of it: as many applications as the degree give every element back.
+pub fn root_repeated_frobenius<S: System, E: Coefficients<S>>(a: &E, z: &S, count: u64) -> E
+    ensures { RootLaw S.sys.ops (suc E.d) (S.mean z.now) → each (suc E.d) S.mean (E.tuple result) ≡ repeated (root_frobenius_map (suc E.d) S.sys.ops (S.mean z.now)) count (each (suc E.d) S.mean (E.tuple a.now)) }
 {
     let z0 = exp_u64(z, count % E::degree() as u64);
     root_frobenius(a, &z0)
@@ -46,8 +78,8 @@ pub fn root_repeated_frobenius<S: System, E: Extension<S>>(a: &E, z: &S, count: 
 
 // The product of all conjugates of a but itself.
 fn other_conjugates<S: System, E: Conjugates<S>>(a: &E) -> E
-    ensures product { each (suc E.d) S.mean (E.coefficients result) ≡ E.conjugate (suc E.d) S.sys.Elem S.sys.ops S.mean (conjugates (extend E.d S.sys.ops (E.product S.sys.Elem S.sys.ops S.mean)) (E.conjugate (suc E.d) S.sys.Elem S.sys.ops S.mean) E.d (each (suc E.d) S.mean (E.coefficients a.now))) }
-    ensures conjugation { Conjugation E.d S.sys.ops (E.product S.sys.Elem S.sys.ops S.mean) (E.conjugate (suc E.d) S.sys.Elem S.sys.ops S.mean) }
+    ensures product { each (suc E.d) S.mean (E.tuple result) ≡ E.conjugate (suc E.d) S.sys.Elem S.sys.ops S.mean (conjugates (extend E.d S.sys.ops (E.product (suc E.d) S.sys.Elem S.sys.ops S.mean)) (E.conjugate (suc E.d) S.sys.Elem S.sys.ops S.mean) E.d (each (suc E.d) S.mean (E.tuple a.now))) }
+    ensures conjugation { Conjugation E.d S.sys.ops (E.product (suc E.d) S.sys.Elem S.sys.ops S.mean) (E.conjugate (suc E.d) S.sys.Elem S.sys.ops S.mean) }
 {
     let mut prod_conj = a.frobenius();
     for _k in 2..E::degree() {
@@ -67,8 +99,6 @@ pub fn pseudo_inv<S: System, E: Conjugates<S>>(a: &E) -> Option<E>
     }
     let prod_conj = other_conjugates(a);
     let norm = a.mul(&prod_conj).coefficient(0);
-    match norm.inverse() {
-        Some(scalar) => Some(scale(&prod_conj, &scalar)),
-        None => None,
-    }
+    let scalar = norm.inverse()?;
+    Some(scale(&prod_conj, &scalar))
 }

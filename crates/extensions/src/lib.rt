@@ -3,9 +3,14 @@
 #![tactic(auto)]
 
 pub mod below;
+pub mod binomial;
+pub mod coefficients;
 pub mod conjugates;
+pub mod element;
 pub mod extension;
 pub mod lists;
+pub mod rule;
+pub mod vectors;
 
 ghost use Rattle.algebra.specs.Ring.{Ops, Laws};
 ghost use Rattle.extensions.specs.Classes.{binomial_modulus, trinomial_modulus, ResidueClass};

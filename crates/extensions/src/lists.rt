@@ -2,7 +2,10 @@
 ghost use Rattle.std.specs.Prelude.{◌≡◌, ℕ, min, List, [], ◌∷◌, take, Ok, Err, slice_index};
 ghost use Rattle.numbers.specs.Lists.{Refused};
 
+use crate::coefficients::Coefficients;
+use crate::element::Element;
 use crate::extension::Extension;
+use crate::rule::Rule;
 use numbers::listed::PrefixListed;
 use numbers::refusal::Refusal;
 
@@ -24,14 +27,12 @@ pub fn extension_from_list<S: PrefixListed, E: Extension<S>>(numbers: &[u64]) ->
     if numbers.len() % degree != 0 {
         return Err(Refusal::CutList);
     }
+    // not by `chunks`, which wants parts that are not empty
     let part = numbers.len() / degree;
     let mut res = E::zero();
     for k in 0..degree {
         let start = k * part;
-        match S::from_list(&numbers[start..start + part]) {
-            Ok(x) => res.set_coefficient(k, x),
-            Err(refusal) => return Err(refusal),
-        }
+        res.set_coefficient(k, S::from_list(&numbers[start..start + part])?);
     }
     Ok(res)
 }
@@ -46,4 +47,18 @@ pub fn extension_number_at<S: PrefixListed, E: Extension<S>>(a: &E, place: usize
         return 0;
     }
     a.coefficient(power).number_at(place % part)
+}
+
+impl<S: PrefixListed, V: Coefficients<S>, R: Rule<V, S>> PrefixListed for Element<S, V, R> {
+    fn size() -> usize {
+        extension_size::<S, Element<S, V, R>>()
+    }
+
+    fn from_list(numbers: &[u64]) -> Result<Element<S, V, R>, Refusal> {
+        extension_from_list::<S, Element<S, V, R>>(numbers)
+    }
+
+    fn number_at(&self, place: usize) -> u32 {
+        extension_number_at::<S, Element<S, V, R>>(self, place)
+    }
 }

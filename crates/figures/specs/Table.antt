@@ -6,16 +6,16 @@ use Rattle.bases.specs.declared.bit.Bit.{Bit}
 use Rattle.bases.specs.declared.residue.Residue.{Residue}
 use Rattle.catalog.specs.Catalog.{system_1, system_2, system_3, system_5, system_7, system_8, system_9}
 use Rattle.cubic.specs.Triples.{triple}
-use Rattle.cubic.specs.declared.cubic.Cubic.{Cubic}
+use Rattle.cubic.specs.declared.triple.Triple.{Triple}
+use Rattle.extensions.specs.declared.element.Element.{Element}
 use Rattle.octic.specs.Octuples.{octuple}
-use Rattle.octic.specs.declared.octic.Octic.{Octic}
+use Rattle.octic.specs.declared.octuple.Octuple.{Octuple}
 use Rattle.quadratic.specs.Pairs.{pair}
-use Rattle.quadratic.specs.declared.quadratic.Quadratic.{Quadratic}
+use Rattle.quadratic.specs.declared.pair.Pair.{Pair}
 use Rattle.quartic.specs.Quadruples.{quadruple}
-use Rattle.quartic.specs.declared.quartic.Quartic.{Quartic}
+use Rattle.quartic.specs.declared.quadruple.Quadruple.{Quadruple}
 use Rattle.quintic.specs.Quintuples.{quintuple}
-use Rattle.quintic.specs.declared.quintic.Quintic.{Quintic}
-use Rattle.trinomial.specs.declared.trinomial.TrinomialQuintic.{TrinomialQuintic}
+use Rattle.quintic.specs.declared.quintuple.Quintuple.{Quintuple}
 use Rattle.reading.specs.declared.calls.Call.TheVariants.{Append, Drop}
 use Rattle.figures.specs.Readings.{X, Leaves}
 use Rattle.figures.specs.Rows.{Shows, Product, Inverse, Refused, Figure}
@@ -42,25 +42,25 @@ pub record Table : Type 0 where
 abbrev pub residue : (m : ℕ) (low : 2 ≤ m) {M : Type 0} → Residue M → Res m
 residue m low a = res m low a.value
 
-abbrev pub mean_1 : {M C : Type 0} → Quartic (Residue M) C → system_1.Elem
+abbrev pub mean_1 : {M R : Type 0} → Element (Residue M) (Quadruple (Residue M)) R → system_1.Elem
 mean_1 a = quadruple (residue 2130706433 (lit≤ tt)) a.value
 
-abbrev pub mean_2 : {M C : Type 0} → Octic (Residue M) C → system_2.Elem
+abbrev pub mean_2 : {M R : Type 0} → Element (Residue M) (Octuple (Residue M)) R → system_2.Elem
 mean_2 a = octuple (residue 2130706433 (lit≤ tt)) a.value
 
-abbrev pub mean_3 : {M C : Type 0} → TrinomialQuintic (Residue M) C → system_3.Elem
+abbrev pub mean_3 : {M R : Type 0} → Element (Residue M) (Quintuple (Residue M)) R → system_3.Elem
 mean_3 a = quintuple (residue 2130706433 (lit≤ tt)) a.value
 
-abbrev pub mean_5 : {M C D : Type 0} → Cubic (Quadratic (Residue M) C) D → system_5.Elem
-mean_5 {M} {C} a = triple (λ (b : Quadratic (Residue M) C). pair (residue 2147483647 (lit≤ tt)) b.value) a.value
+abbrev pub mean_5 : {M R Q : Type 0} → (let E = Element (Residue M) (Pair (Residue M)) R in Element E (Triple E) Q) → system_5.Elem
+mean_5 {M} {R} a = triple (λ (b : Element (Residue M) (Pair (Residue M)) R). pair (residue 2147483647 (lit≤ tt)) b.value) a.value
 
-abbrev pub mean_7 : {C : Type 0} → TrinomialQuintic Bit C → system_7.Elem
+abbrev pub mean_7 : {R : Type 0} → Element Bit (Quintuple Bit) R → system_7.Elem
 mean_7 a = quintuple (λ (b : Bit). b.on) a.value
 
-abbrev pub mean_8 : {M C : Type 0} → Quintic (Residue M) C → system_8.Elem
+abbrev pub mean_8 : {M R : Type 0} → Element (Residue M) (Quintuple (Residue M)) R → system_8.Elem
 mean_8 a = quintuple (residue 11 (lit≤ tt)) a.value
 
-abbrev pub mean_9 : {M C : Type 0} → Quadratic (Residue M) C → system_9.Elem
+abbrev pub mean_9 : {M R : Type 0} → Element (Residue M) (Pair (Residue M)) R → system_9.Elem
 mean_9 a = pair (residue 11 (lit≤ tt)) a.value
 
 -- Each row, as the code answers it.

@@ -6,8 +6,8 @@ ghost use Rattle.reading.specs.Sheet.{after, sum_of};
 
 use bases::residue::Residue;
 use catalog::systems::System8;
+use extensions::element::Element;
 use numbers::refusal::Refusal;
-use quintic::quintic::Quintic;
 use quintic::quintuple::Quintuple;
 use reading::calls::{Answer, Call};
 use reading::states::Figure;
@@ -19,17 +19,13 @@ pub fn root() -> System8
     ensures { mean_of result ≡ X }
 {
     let zero = Residue::of(0);
-    let value = Quintuple {
+    Element::new(Quintuple {
         c0: zero,
         c1: Residue::of(1),
         c2: zero,
         c3: zero,
         c4: zero,
-    };
-    Quintic {
-        value,
-        mark: Default::default(),
-    }
+    })
 }
 
 // The figure after any calls at X, which has an inverse.

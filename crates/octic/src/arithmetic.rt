@@ -180,9 +180,7 @@ pub fn octic_norm<S: System>(a: &Octuple<S>, w: &S) -> Quadruple<S>
 pub fn octic_inv<S: System>(a: &Octuple<S>, w: &S) -> Option<Octuple<S>>
     ensures { elim result [ Some b ↦ Inverts (binomial_extension 7 S.sys (S.mean w.now)).ops (octuple S.mean a.now) (octuple S.mean b) | None ↦ NoInverse (binomial_extension 7 S.sys (S.mean w.now)).ops (octuple S.mean a.now) ] }
 {
-    let Some(norm_inv) = quartic_inv(&octic_norm(a, w), w) else {
-        return None;
-    };
+    let norm_inv = quartic_inv(&octic_norm(a, w), w)?;
     let evns = Quadruple {
         c0: a.c0,
         c1: a.c2,

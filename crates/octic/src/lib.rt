@@ -2,7 +2,5 @@
 #![tactic(auto)]
 
 pub mod arithmetic;
-pub mod coefficients;
-pub mod conjugates;
 pub mod octic;
 pub mod octuple;

@@ -43,9 +43,7 @@ pub fn quadratic_norm<S: System>(a: &Pair<S>, w: &S) -> S
 pub fn quadratic_inv<S: System>(a: &Pair<S>, w: &S) -> Option<Pair<S>>
     ensures { elim result [ Some b ↦ Inverts (binomial_extension 1 S.sys (S.mean w.now)).ops (pair S.mean a.now) (pair S.mean b) | None ↦ NoInverse (binomial_extension 1 S.sys (S.mean w.now)).ops (pair S.mean a.now) ] }
 {
-    let Some(scalar) = quadratic_norm(a, w).inverse() else {
-        return None;
-    };
+    let scalar = quadratic_norm(a, w).inverse()?;
     Some(Pair {
         c0: a.c0.mul(&scalar),
         c1: a.c1.neg().mul(&scalar),

@@ -5,65 +5,62 @@ ghost use Rattle.extensions.specs.Schoolbook.{binomial};
 ghost use Rattle.quadratic.specs.Pairs.{pair};
 
 use crate::pair::Pair;
-use crate::quadratic::{Quadratic, QuadraticConstants};
+use crate::quadratic::Quadratic;
+use extensions::binomial::BinomialConstants;
+use extensions::element::Element;
 use numbers::system::System;
 
 // Constants of degree 2 with w = −1.
-pub trait ComplexConstants<S: System>: QuadraticConstants<S> {
-    ghost negative: { S.mean Self.QuadraticConstants.w ≡ S.sys.ops.neg S.sys.ops.one };
+pub trait ComplexConstants<S: System>: BinomialConstants<S> {
+    ghost negative: { S.mean Self.BinomialConstants.w ≡ S.sys.ops.neg S.sys.ops.one };
 }
 
-impl<S: System, C: ComplexConstants<S>> Quadratic<S, C> {
-    // real + imag X
-    pub fn new_complex(real: S, imag: S) -> Quadratic<S, C>
-        ensures { (result.value.c0 ≡ real) × (result.value.c1 ≡ imag) }
-    {
-        Quadratic {
-            value: Pair { c0: real, c1: imag },
-            mark: C::default(),
-        }
-    }
+// real + imag X
+pub fn new_complex<S: System, C: ComplexConstants<S>>(real: S, imag: S) -> Quadratic<S, C>
+    ensures { (result.value.c0 ≡ real) × (result.value.c1 ≡ imag) }
+{
+    Element::new(Pair { c0: real, c1: imag })
+}
 
-    // The real number: its imaginary part is zero.
-    pub fn new_real(real: S) -> Quadratic<S, C>
-        ensures { pair S.mean result.value ≡ embed 1 S.sys.ops (S.mean real) }
-    {
-        Self::new_complex(real, S::zero())
-    }
+// The real number: its imaginary part is zero.
+pub fn new_real<S: System, C: ComplexConstants<S>>(real: S) -> Quadratic<S, C>
+    ensures { pair S.mean result.value ≡ embed 1 S.sys.ops (S.mean real) }
+{
+    new_complex(real, S::zero())
+}
 
-    // The imaginary number: its real part is zero.
-    pub fn new_imag(imag: S) -> Quadratic<S, C>
-        ensures { pair S.mean result.value ≡ (S.sys.ops.zero, (S.mean imag, tt)) }
-    {
-        Self::new_complex(S::zero(), imag)
-    }
+// The imaginary number: its real part is zero.
+pub fn new_imag<S: System, C: ComplexConstants<S>>(imag: S) -> Quadratic<S, C>
+    ensures { pair S.mean result.value ≡ (S.sys.ops.zero, (S.mean imag, tt)) }
+{
+    new_complex(S::zero(), imag)
+}
 
-    // The real part.
-    pub fn real(&self) -> S
-        ensures { result ≡ self.now.value.c0 }
-    {
-        self.value.c0
-    }
+// The real part.
+pub fn real<S: System, C: ComplexConstants<S>>(a: &Quadratic<S, C>) -> S
+    ensures { result ≡ a.now.value.c0 }
+{
+    a.value.c0
+}
 
-    // The imaginary part.
-    pub fn imag(&self) -> S
-        ensures { result ≡ self.now.value.c1 }
-    {
-        self.value.c1
-    }
+// The imaginary part.
+pub fn imag<S: System, C: ComplexConstants<S>>(a: &Quadratic<S, C>) -> S
+    ensures { result ≡ a.now.value.c1 }
+{
+    a.value.c1
+}
 
-    // The complex conjugate: the imaginary part negated.
-    pub fn conjugate(&self) -> Quadratic<S, C>
-        ensures { pair S.mean result.value ≡ (S.mean self.now.value.c0, (S.sys.ops.neg (S.mean self.now.value.c1), tt)) }
-    {
-        Self::new_complex(self.real(), self.imag().neg())
-    }
+// The complex conjugate: the imaginary part negated.
+pub fn conjugate<S: System, C: ComplexConstants<S>>(a: &Quadratic<S, C>) -> Quadratic<S, C>
+    ensures { pair S.mean result.value ≡ (S.mean a.now.value.c0, (S.sys.ops.neg (S.mean a.now.value.c1), tt)) }
+{
+    new_complex(real(a), imag(a).neg())
+}
 
-    // The sum of the squares of both parts, which is the product with the conjugate.
-    pub fn norm(&self) -> S
-        ensures squares { S.mean result ≡ S.sys.ops.add (S.sys.ops.mul (S.mean self.now.value.c0) (S.mean self.now.value.c0)) (S.sys.ops.mul (S.mean self.now.value.c1) (S.mean self.now.value.c1)) }
-        ensures product { binomial 2 S.sys.ops (S.mean C.w) (pair S.mean self.now.value) (S.mean self.now.value.c0, (S.sys.ops.neg (S.mean self.now.value.c1), tt)) ≡ embed 1 S.sys.ops (S.mean result) }
-    {
-        self.real().square().add(&self.imag().square())
-    }
+// The sum of the squares of both parts, which is the product with the conjugate.
+pub fn norm<S: System, C: ComplexConstants<S>>(a: &Quadratic<S, C>) -> S
+    ensures squares { S.mean result ≡ S.sys.ops.add (S.sys.ops.mul (S.mean a.now.value.c0) (S.mean a.now.value.c0)) (S.sys.ops.mul (S.mean a.now.value.c1) (S.mean a.now.value.c1)) }
+    ensures product { binomial 2 S.sys.ops (S.mean C.w) (pair S.mean a.now.value) (S.mean a.now.value.c0, (S.sys.ops.neg (S.mean a.now.value.c1), tt)) ≡ embed 1 S.sys.ops (S.mean result) }
+{
+    real(a).square().add(&imag(a).square())
 }

@@ -66,9 +66,7 @@ pub fn quartic_norm<S: System>(a: &Quadruple<S>, w: &S) -> Pair<S>
 pub fn quartic_inv<S: System>(a: &Quadruple<S>, w: &S) -> Option<Quadruple<S>>
     ensures { elim result [ Some b ↦ Inverts (binomial_extension 3 S.sys (S.mean w.now)).ops (quadruple S.mean a.now) (quadruple S.mean b) | None ↦ NoInverse (binomial_extension 3 S.sys (S.mean w.now)).ops (quadruple S.mean a.now) ] }
 {
-    let Some(inv) = quadratic_inv(&quartic_norm(a, w), w) else {
-        return None;
-    };
+    let inv = quadratic_inv(&quartic_norm(a, w), w)?;
     let evns = Pair { c0: a.c0, c1: a.c2 };
     let odds = Pair { c0: a.c1, c1: a.c3 };
     let out_evn = quadratic_mul(&evns, &inv, w);

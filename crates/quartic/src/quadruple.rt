@@ -1,4 +1,9 @@
 // Four coefficients.
+ghost use Rattle.std.proofs.Common.{lit≤};
+ghost use Rattle.quartic.specs.Quadruples.{quadruple};
+
+use extensions::coefficients::Coefficients;
+use numbers::system::System;
 
 // c0 + c1 X + c2 X² + c3 X³
 #[derive(Clone, Copy)]
@@ -7,4 +12,45 @@ pub struct Quadruple<S> {
     pub c1: S,
     pub c2: S,
     pub c3: S,
+}
+
+impl<S: System> Coefficients<S> for Quadruple<S> {
+    ghost d = { 3 };
+
+    ghost tuple = { quadruple (λ x. x) };
+
+    ghost several = { lit≤ tt };
+
+    fn degree() -> usize {
+        4
+    }
+
+    fn fill(x: S) -> Quadruple<S> {
+        Quadruple {
+            c0: x,
+            c1: x,
+            c2: x,
+            c3: x,
+        }
+    }
+
+    fn coefficient(&self, k: usize) -> S {
+        match k {
+            0 => self.c0,
+            1 => self.c1,
+            2 => self.c2,
+            3 => self.c3,
+            _ => S::zero(),
+        }
+    }
+
+    fn set_coefficient(&mut self, k: usize, x: S) {
+        match k {
+            0 => self.c0 = x,
+            1 => self.c1 = x,
+            2 => self.c2 = x,
+            3 => self.c3 = x,
+            _ => {}
+        }
+    }
 }

@@ -1,6 +1,5 @@
 // Products of five coefficients, with X^5 = w.
 ghost use Rattle.std.specs.Prelude.{◌≡◌};
-ghost use Rattle.extensions.specs.Conjugates.{scaled};
 ghost use Rattle.extensions.specs.Schoolbook.{binomial};
 ghost use Rattle.quintic.specs.Quintuples.{quintuple};
 
@@ -45,19 +44,6 @@ pub fn quintic_square<S: System>(a: &Quintuple<S>, w: &S) -> Quintuple<S>
         c2: dot_product_3(&a.c1, &a.c1, &two_a0, &a.c2, &w_a4, &two_a3),
         c3: dot_product_3(&w_a4, &a.c4, &two_a0, &a.c3, &two_a1, &a.c2),
         c4: dot_product_3(&a.c2, &a.c2, &two_a0, &a.c4, &two_a1, &a.c3),
-    }
-}
-
-// Each coefficient times one element of the layer below.
-pub fn quintic_scale<S: System>(a: &Quintuple<S>, x: &S) -> Quintuple<S>
-    ensures { quintuple S.mean result ≡ scaled 5 S.sys.ops (S.mean x.now) (quintuple S.mean a.now) }
-{
-    Quintuple {
-        c0: a.c0.mul(x),
-        c1: a.c1.mul(x),
-        c2: a.c2.mul(x),
-        c3: a.c3.mul(x),
-        c4: a.c4.mul(x),
     }
 }
 

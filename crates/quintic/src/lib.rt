@@ -2,9 +2,6 @@
 #![tactic(auto)]
 
 pub mod arithmetic;
-pub mod coefficients;
 pub mod conjugates;
-pub mod frobenius;
 pub mod quintic;
 pub mod quintuple;
-pub mod vectors;

@@ -6,15 +6,17 @@ ghost use Rattle.std.proofs.Common.{lit≤, lit<};
 
 use bases::modulus::Modulus;
 use bases::residue::Residue;
-use cubic::cubic::{Cubic, CubicConstants};
+use cubic::cubic::Cubic;
 use cubic::triple::Triple;
-use octic::octic::{Octic, OcticConstants};
+use extensions::binomial::BinomialConstants;
+use extensions::element::Element;
+use octic::octic::Octic;
 
 #[cfg(test)]
 mod tests;
 
 // The modulus 12.
-#[derive(Clone, Copy, Default)]
+#[derive(Clone, Copy)]
 pub struct Twelve;
 
 impl Modulus for Twelve {
@@ -26,10 +28,10 @@ impl Modulus for Twelve {
 }
 
 // X³ = 5
-#[derive(Clone, Copy, Default)]
+#[derive(Clone, Copy)]
 pub struct Five;
 
-impl CubicConstants<Residue<Twelve>> for Five {
+impl BinomialConstants<Residue<Twelve>> for Five {
     ghost w = { record { value = 5; mark = record {}; small = lit< tt } };
 
     fn w() -> Residue<Twelve> {
@@ -38,21 +40,18 @@ impl CubicConstants<Residue<Twelve>> for Five {
 }
 
 // Y⁸ = X
-#[derive(Clone, Copy, Default)]
+#[derive(Clone, Copy)]
 pub struct CubicRoot;
 
-impl OcticConstants<Cubic<Residue<Twelve>, Five>> for CubicRoot {
-    ghost w = { record { value = record { c0 = record { value = 0; mark = record {}; small = lit< tt }; c1 = record { value = 1; mark = record {}; small = lit< tt }; c2 = record { value = 0; mark = record {}; small = lit< tt } }; mark = record {} } };
+impl BinomialConstants<Cubic<Residue<Twelve>, Five>> for CubicRoot {
+    ghost w = { record { value = record { c0 = record { value = 0; mark = record {}; small = lit< tt }; c1 = record { value = 1; mark = record {}; small = lit< tt }; c2 = record { value = 0; mark = record {}; small = lit< tt } }; below = record {}; rule = record {} } };
 
     fn w() -> Cubic<Residue<Twelve>, Five> {
-        Cubic {
-            value: Triple {
-                c0: Residue::of(0),
-                c1: Residue::of(1),
-                c2: Residue::of(0),
-            },
-            mark: Five,
-        }
+        Element::new(Triple {
+            c0: Residue::of(0),
+            c1: Residue::of(1),
+            c2: Residue::of(0),
+        })
     }
 }
 

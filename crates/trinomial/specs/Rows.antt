@@ -27,3 +27,13 @@ table_map (suc (suc (suc zero))) o r a = a
 table_map (suc (suc (suc (suc zero)))) o r a = a
 table_map (suc (suc (suc (suc (suc zero))))) o r a = table_frobenius o r a
 table_map (suc (suc (suc (suc (suc (suc n)))))) o r a = a
+
+-- the product of tuples of any length, which is the trinomial's for five coefficients
+abbrev pub product_of : {A : Type 0} → (n : ℕ) → Ops A → Tuple n A → Tuple n A → Tuple n A
+product_of zero o a b = a
+product_of (suc zero) o a b = a
+product_of (suc (suc zero)) o a b = a
+product_of (suc (suc (suc zero))) o a b = a
+product_of (suc (suc (suc (suc zero)))) o a b = a
+product_of (suc (suc (suc (suc (suc zero))))) o a b = trinomial o a b
+product_of (suc (suc (suc (suc (suc (suc n)))))) o a b = a

@@ -1,4 +1,4 @@
-// Conjugates by a table of rows, and inverses by them. What is promised of a conjugate beyond its definition holds where the rows keep the table law.
+// Conjugates by a table of rows, and inverses by them. What is promised of a conjugate beyond its definition holds where the rows keep the table law: a premise, since a function that takes any rows asks nothing of them.
 ghost use Rattle.std.specs.Prelude.{◌≡◌, ℕ, Some, None};
 ghost use Rattle.algebra.specs.Units.{Inverts, NoInverse};
 ghost use Rattle.extensions.specs.Conjugates.{repeated, Conjugation, TableLaw, table_frobenius};
@@ -9,8 +9,8 @@ ghost use Rattle.trinomial.specs.Rows.{rows, other_conjugates_of};
 
 use crate::arithmetic::{trinomial_mul_low, trinomial_quintic_mul};
 use crate::rows::Rows;
+use extensions::below::scale;
 use numbers::system::System;
-use quintic::arithmetic::quintic_scale;
 use quintic::quintuple::Quintuple;
 
 // The Frobenius image a0 + a1 T1 + a2 T2 + a3 T3 + a4 T4.
@@ -57,6 +57,7 @@ pub fn trinomial_repeated_frobenius<S: System>(
 fn other_conjugates<S: System>(a: &Quintuple<S>, t: &Rows<S>) -> Quintuple<S>
     ensures { quintuple S.mean result ≡ other_conjugates_of S.sys.ops (rows S.mean t.now) (quintuple S.mean a.now) }
 {
+    // by two products, where the form for any degree takes three
     let a_exp_p = trinomial_frobenius(a, t);
     let a_exp_p_plus_p2 = trinomial_frobenius(&trinomial_quintic_mul(a, &a_exp_p), t);
     let once = trinomial_frobenius(&a_exp_p_plus_p2, t);
@@ -69,8 +70,6 @@ pub fn trinomial_inv<S: System>(a: &Quintuple<S>, t: &Rows<S>) -> Option<Quintup
 {
     let prod_conj = other_conjugates(a, t);
     let norm = trinomial_mul_low(a, &prod_conj);
-    match norm.inverse() {
-        Some(scalar) => Some(quintic_scale(&prod_conj, &scalar)),
-        None => None,
-    }
+    let scalar = norm.inverse()?;
+    Some(scale(&prod_conj, &scalar))
 }

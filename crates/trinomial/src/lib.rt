@@ -2,7 +2,6 @@
 #![tactic(auto)]
 
 pub mod arithmetic;
-pub mod coefficients;
 pub mod conjugates;
 pub mod frobenius;
 pub mod rows;

@@ -11,7 +11,10 @@ use numbers::system::System;
 pub fn draw<S: System>(x: S) -> Result<Point<S>, Refusal>
     ensures { elim result [ Ok p ↦ (p.element ≡ x) × Inverts S.sys.ops (S.mean x) (S.mean p.inverse) | Err q ↦ (q ≡ Refusal.NoInverse) × NoInverse S.sys.ops (S.mean x) ] }
 {
-    let inverse = x.inverse().ok_or(Refusal::NoInverse)?;
+    // by let .. else, which the project's rules want of this refusal
+    let Some(inverse) = x.inverse() else {
+        return Err(Refusal::NoInverse);
+    };
     Ok(Point {
         element: x,
         inverse,

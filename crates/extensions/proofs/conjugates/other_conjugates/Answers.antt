@@ -8,41 +8,41 @@ use Rattle.extensions.proofs.conjugates.other_conjugates.Goals as goal
 pub loop-k-init : goal.loop-k-init
 loop-k-init g c =
     let s = g.S.System in
-    let x = g.E.Extension in
-    let a = each (suc x.d) s.mean (x.coefficients c.args.a.now) in
+    let x = g.E.Coefficients in
+    let a = each (suc x.d) s.mean (x.tuple c.args.a.now) in
     let φ = g.E.Conjugates.conjugate (suc x.d) s.sys.Elem s.sys.ops s.mean in
-    let times = x.product s.sys.Elem s.sys.ops s.mean in
+    let times = g.E.Extension.product (suc x.d) s.sys.Elem s.sys.ops s.mean in
     c.frobenius-prod_conj.ensures.image
-    ∙ ap φ (sym (ap (times a) (c.frobenius-prod_conj.ensures.conjugation.below s.sys.ops.one) ∙ g.met.E.Extension.extends.1.ring.mul-one a))
+    ∙ ap φ (sym (ap (times a) (c.frobenius-prod_conj.ensures.conjugation.below s.sys.ops.one) ∙ g.met.E.Extension.extends.0.ring.mul-one a))
 
 pub loop-k-preserved : goal.loop-k-preserved
 loop-k-preserved g c =
     let s = g.S.System in
-    let x = g.E.Extension in
+    let x = g.E.Coefficients in
     let law = g.met.E.Extension.extends in
-    let means = λ (v : _). each (suc x.d) s.mean (x.coefficients v) in
+    let means = λ (v : _). each (suc x.d) s.mean (x.tuple v) in
     let a = means c.args.a.now in
     let φ = g.E.Conjugates.conjugate (suc x.d) s.sys.Elem s.sys.ops s.mean in
-    let times = x.product s.sys.Elem s.sys.ops s.mean in
+    let times = g.E.Extension.product (suc x.d) s.sys.Elem s.sys.ops s.mean in
     let ext = extend x.d s.sys.ops times in
     let k = c.loop-k._k in
     let low : 2 ≤ k = c.loop-k.auto._k in
     let next : suc (k - 1) ≡ (k + 1) - 1 = omega arith in
     c.frobenius-prod_conj-in-loop-k.ensures.image
     ∙ ap φ
-    (product_means x.d s.sys times g.E.System.sys law.1 g.E.System.mean means law.2 c.loop-k.prod_conj c.args.a.now c.mul.result c.mul.ensures
+    (product_means x.d s.sys times g.E.System.sys law.0 g.E.System.mean means law.1 c.loop-k.prod_conj c.args.a.now c.mul.result c.mul.ensures
     ∙ ap (λ t. times t a) c.loop-k.invariant
-    ∙ law.1.ring.mul_comm (φ (conjugates ext φ (k - 1) a)) a
+    ∙ law.0.ring.mul_comm (φ (conjugates ext φ (k - 1) a)) a
     ∙ ap (λ n. conjugates ext φ n a) next)
 
 pub returns : goal.returns
 returns g c =
     let s = g.S.System in
-    let x = g.E.Extension in
-    let a = each (suc x.d) s.mean (x.coefficients c.args.a.now) in
+    let x = g.E.Coefficients in
+    let a = each (suc x.d) s.mean (x.tuple c.args.a.now) in
     let φ = g.E.Conjugates.conjugate (suc x.d) s.sys.Elem s.sys.ops s.mean in
-    let ext = extend x.d s.sys.ops (x.product s.sys.Elem s.sys.ops s.mean) in
-    let low : 1 ≤ x.d = g.met.E.Extension.extends.0 in
+    let ext = extend x.d s.sys.ops (g.E.Extension.product (suc x.d) s.sys.Elem s.sys.ops s.mean) in
+    let low : 1 ≤ x.d = g.met.E.Coefficients.several in
     let two : 2 ≤ c.degree-k-end.result = omega (arith, c.degree-k-end.ensures) in
     let high : c.loop-k._k ≤ c.degree-k-end.result = c.loop-k.auto._k-end two in
     let last : c.loop-k._k - 1 ≡ x.d = omega (arith, c.degree-k-end.ensures, c.loop-k-test.false) in

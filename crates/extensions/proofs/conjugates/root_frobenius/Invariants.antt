@@ -1,13 +1,13 @@
 use Rattle.std.proofs.Common.{◌≡◌, ℕ, suc, ◌<◌}
 use Rattle.algebra.specs.Ring.{power}
-use Rattle.extensions.proofs.Coefficients.{at}
+use Rattle.extensions.proofs.Written.{at}
 use Rattle.extensions.proofs.conjugates.root_frobenius.Given as goal
 
 -- the next power, and the coefficients so far
 abbrev pub invariant-loop-k : goal.invariant-loop-k
 invariant-loop-k g l =
     let s = g.S.System in
-    let x = g.E.Extension in
+    let x = g.E.Coefficients in
     let at' = at s.mean s.sys.ops.zero (suc x.d) in
     (l.powers.base ≡ l.z) × (s.mean l.powers.current ≡ power s.sys.ops (s.mean l.z) l.k)
-    × ((j : ℕ) → j < l.k → at' (x.coefficients l.res) j ≡ s.sys.ops.mul (at' (x.coefficients l.a) j) (power s.sys.ops (s.mean l.z) j))
+    × ((j : ℕ) → j < l.k → at' (x.tuple l.res) j ≡ s.sys.ops.mul (at' (x.tuple l.a) j) (power s.sys.ops (s.mean l.z) j))

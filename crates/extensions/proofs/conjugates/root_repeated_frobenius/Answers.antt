@@ -9,12 +9,12 @@ pub returns : goal.returns
 returns g c law =
     let s = g.S.System in
     let o = s.sys.ops in
-    let x = g.E.Extension in
+    let x = g.E.Coefficients in
     let n = suc x.d in
     let L = g.met.S.System.lawful.ring in
     let z = s.mean c.args.z.now in
-    let a = each n s.mean (x.coefficients c.args.a.now) in
-    c.root_frobenius.ensures
+    let a = each n s.mean (x.tuple c.args.a.now) in
+    c.root_frobenius.ensures.image
     ∙ ap (λ t. root_frobenius_map n o t a)
     (c.exp_u64-z0.ensures ∙ ap (λ k. power o z (c.args.count % k)) c.degree.ensures ∙ root_modulo o L z n c.args.count law)
     ∙ root_repeated o L z n c.args.count a

@@ -3,7 +3,7 @@ use native.Mathlib.Nat as Nat
 use Rattle.numbers.specs.Lists.{Refused}
 use Rattle.extensions.specs.Extensions.{joined}
 use Rattle.extensions.specs.Tuples.{each}
-use Rattle.extensions.proofs.Coefficients.{written_more}
+use Rattle.extensions.proofs.Written.{written_more}
 use Rattle.extensions.proofs.Cuts.{part_within, joined_parts_list, uneven, refused_part}
 use Rattle.extensions.proofs.lists.extension_from_list.Goals as goal
 
@@ -13,7 +13,7 @@ whole_parts n len e = sym (ap (λ r. n * (len / n) + r) (sym e) ∙ Nat.div-add-
 
 pub returns-then-numbers-degree-ne0 : goal.returns-then-numbers-degree-ne0
 returns-then-numbers-degree-ne0 g c =
-    uneven g.E.Extension.d g.S.System.sys g.met.S.System.lawful _ g.E.System.sys g.met.E.Extension.extends.1 c.args.numbers.now
+    uneven g.E.Coefficients.d g.S.System.sys g.met.S.System.lawful _ g.E.System.sys g.met.E.Extension.extends.0 c.args.numbers.now
     (λ e. c.if-numbers-degree-ne0.true (ap (λ n. length c.args.numbers.now % n) c.degree-degree.ensures ∙ e))
 
 pub loop-k-init : goal.loop-k-init
@@ -33,9 +33,9 @@ slice_bounds-from_list-end g c =
     let h : c.loop-k.k * (len / n) + len / n ≤ len = part_within n (len / n) c.loop-k.k len c.loop-k-test.true (whole_parts n len c.if-numbers-degree-ne0.false) in
     search rules
 
-pub returns-in-Err : goal.returns-in-Err
-returns-in-Err g c =
-    let x = g.E.Extension in
+pub returns-in_err-from_list : goal.returns-in_err-from_list
+returns-in_err-from_list g c =
+    let x = g.E.Coefficients in
     let n = c.degree-degree.result in
     let l = c.args.numbers.now in
     let p = length l / n in
@@ -44,30 +44,31 @@ returns-in-Err g c =
     let within : k * p + p ≤ length l = part_within n p k (length l) c.loop-k-test.true len in
     let long : length (take p (drop (k * p) l)) ≡ p = length-take p (drop (k * p) l) ∙ ap (min p) (length-drop (k * p) l) ∙ omega arith in
     let lt : k < suc x.d = omega (arith, c.degree-degree.ensures, c.loop-k-test.true) in
-    refused_part x.d g.S.System.sys g.met.S.System.lawful _ g.E.System.sys g.met.E.Extension.extends.1 l p k
-    (len ∙ ap (λ m. m * p) c.degree-degree.ensures) lt long c.in-Err.refusal
-    (subst (λ m. Refused g.S.System.sys (take m (drop (k * p) l) ∷ []) c.in-Err.refusal) (Nat.add-sub_cancel_left (k * p) p) c.in-Err.ensures)
+    let refused : Refused g.E.System.sys (l ∷ []) c.in_err-from_list.field-0.0 = refused_part x.d g.S.System.sys g.met.S.System.lawful _ g.E.System.sys g.met.E.Extension.extends.0 l p k
+    (len ∙ ap (λ m. m * p) c.degree-degree.ensures) lt long c.in_err-from_list.field-0.0
+    (subst (λ m. Refused g.S.System.sys (take m (drop (k * p) l) ∷ []) c.in_err-from_list.field-0.0) (Nat.add-sub_cancel_left (k * p) p) c.in_err-from_list.ensures) in
+    search rules
 
 pub loop-k-preserved : goal.loop-k-preserved
 loop-k-preserved g c =
     let s = g.S.System in
-    let x = g.E.Extension in
+    let x = g.E.Coefficients in
     let p = length c.args.numbers.now / c.degree-degree.result in
     let k = c.loop-k.k in
     let lt : k < suc x.d = omega (arith, c.degree-degree.ensures, c.loop-k-test.true) in
     written_more s.mean s.sys.ops.zero (suc x.d) (λ j y. s.sys.list y ≡ take p (drop (j * p) c.args.numbers.now))
-    (x.coefficients c.loop-k.res) (x.coefficients c.set_coefficient.new.self) k c.in-Ok.x c.set_coefficient.ensures lt
-    c.loop-k.invariant (c.in-Ok.ensures ∙ ap (λ n. take n (drop (k * p) c.args.numbers.now)) (Nat.add-sub_cancel_left (k * p) p))
+    (x.tuple c.loop-k.res) (x.tuple c.set_coefficient.new.self) k c.in_ok-from_list.field-0 c.set_coefficient.ensures lt
+    c.loop-k.invariant (c.in_ok-from_list.ensures ∙ ap (λ n. take n (drop (k * p) c.args.numbers.now)) (Nat.add-sub_cancel_left (k * p) p))
 
 pub returns : goal.returns
 returns g c =
     let s = g.S.System in
-    let x = g.E.Extension in
+    let x = g.E.Coefficients in
     let law = g.met.E.Extension.extends in
     let n = c.degree-degree.result in
     let l = c.args.numbers.now in
     let len = whole_parts n (length l) c.if-numbers-degree-ne0.false ∙ ap (λ m. m * (length l / n)) c.degree-degree.ensures in
-    law.1.list (g.E.System.mean c.loop-k.res)
-    ∙ ap (λ t. joined (suc x.d) s.sys.list t) (law.2 c.loop-k.res)
-    ∙ joined_parts_list s.sys.list s.sys.ops.zero (length l / n) (suc x.d) (each (suc x.d) s.mean (x.coefficients c.loop-k.res)) l len
+    law.0.list (g.E.System.mean c.loop-k.res)
+    ∙ ap (λ t. joined (suc x.d) s.sys.list t) (law.1 c.loop-k.res)
+    ∙ joined_parts_list s.sys.list s.sys.ops.zero (length l / n) (suc x.d) (each (suc x.d) s.mean (x.tuple c.loop-k.res)) l len
     (λ k h. c.loop-k.invariant k (omega (arith, c.degree-degree.ensures, c.loop-k-test.false)))

@@ -5,14 +5,15 @@ use Rattle.octic.specs.Octuples.{octuple, octic_norm_of}
 use Rattle.octic.proofs.Tower.{octic_inverse, octic_norm_inverse}
 use Rattle.octic.proofs.arithmetic.octic_inv.Goals as goal
 
-pub returns-in_default : goal.returns-in_default
-returns-in_default g c b e =
+pub returns-in_err-norm_inv : goal.returns-in_err-norm_inv
+returns-in_err-norm_inv g c =
     let s = g.S.System in
     let o = g.S.System.sys.ops in
     let w = s.mean c.args.w.now in
     let a = octuple s.mean c.args.a.now in
-    c.in_default.ensures (octic_norm_of o w b)
-    (ap (λ n. binomial 4 o w n (octic_norm_of o w b)) c.octic_norm.ensures ∙ octic_norm_inverse o g.met.S.System.lawful.ring w a b e)
+    rw c.from_residual.ensures
+    (λ b e. c.in_err-norm_inv.ensures (octic_norm_of o w b)
+    (ap (λ n. binomial 4 o w n (octic_norm_of o w b)) c.octic_norm.ensures ∙ octic_norm_inverse o g.met.S.System.lawful.ring w a b e))
 
 pub returns : goal.returns
 returns g c =
@@ -20,7 +21,7 @@ returns g c =
     let o = g.S.System.sys.ops in
     let w = s.mean c.args.w.now in
     let a = octuple s.mean c.args.a.now in
-    let n = quadruple s.mean c.in-Some.norm_inv in
+    let n = quadruple s.mean c.in_ok-norm_inv.norm_inv in
     let evens = c.quartic_mul-out_evn.ensures in
     let odds = c.quartic_mul-out_odd.ensures in
     ap (binomial 8 o w a) (λ i. (
@@ -45,4 +46,4 @@ returns g c =
         ),
       ),
     ))
-    ∙ octic_inverse o g.met.S.System.lawful.ring w a n (ap (λ t. binomial 4 o w t n) (sym c.octic_norm.ensures) ∙ c.in-Some.ensures)
+    ∙ octic_inverse o g.met.S.System.lawful.ring w a n (ap (λ t. binomial 4 o w t n) (sym c.octic_norm.ensures) ∙ c.in_ok-norm_inv.ensures)

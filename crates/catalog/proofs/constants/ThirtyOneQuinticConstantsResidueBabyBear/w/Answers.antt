@@ -1,5 +1,0 @@
-use Rattle.bases.proofs.Held.{residue_path}
-use Rattle.catalog.proofs.constants.ThirtyOneQuinticConstantsResidueBabyBear.w.Goals as goal
-
-pub returns : goal.returns
-returns c = residue_path c.of.result _ c.of.ensures
