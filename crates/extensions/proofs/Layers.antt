@@ -1,20 +1,10 @@
 -- What follows for systems that extend others.
-use Rattle.std.proofs.Common.{◌≡◌, ℕ, suc, T, sym, ap, ◌∙◌, ap₂}
+use Rattle.std.proofs.Common.{◌≡◌, ℕ, suc, sym, ap, ◌∙◌, ap₂}
 use Rattle.algebra.specs.Units.{Inverts}
-use Rattle.numbers.specs.Systems.{Sys, Lawful}
+use Rattle.numbers.specs.Systems.{Sys}
 use Rattle.extensions.specs.Tuples.{Tuple}
-use Rattle.extensions.specs.Extensions.{extend, binomial_extension, trinomial_extension}
-use Rattle.extensions.specs.Layers.{Extends, extension_extends}
-use Rattle.extensions.specs.Schoolbook.{binomial, trinomial}
-use Rattle.extensions.proofs.Products.{passes, binomial_laws, binomial_scales, trinomial_laws, trinomial_scales}
-
-abbrev pub binomial_extends : (d : ℕ) → T (passes d (λ A o w. binomial (suc d) o w)) → (B : Sys) → Lawful B → (w : B.Elem)
-    → Extends d B (binomial (suc d) B.ops w) (binomial_extension d B w)
-binomial_extends d test B lawful w =
-    extension_extends d B (binomial (suc d) B.ops w) (binomial_laws d test B.ops lawful.ring w) (binomial_scales d test B.ops lawful.ring w)
-
-abbrev pub trinomial_extends : (B : Sys) → Lawful B → Extends 4 B (trinomial B.ops) (trinomial_extension B)
-trinomial_extends B lawful = extension_extends 4 B (trinomial B.ops) (trinomial_laws B.ops lawful.ring) (trinomial_scales B.ops lawful.ring)
+use Rattle.extensions.specs.Extensions.{extend}
+use Rattle.extensions.specs.Layers.{Extends}
 
 -- elements with equal tuples are equal
 pub tuple_injective : (d : ℕ) (B : Sys) (times : Tuple (suc d) B.Elem → Tuple (suc d) B.Elem → Tuple (suc d) B.Elem) (s : Sys)

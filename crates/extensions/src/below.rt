@@ -27,11 +27,7 @@ pub fn is_in_basefield<S: System, E: Coefficients<S>>(a: &E) -> bool
 pub fn as_base<S: System, E: Coefficients<S>>(a: &E) -> Option<S>
     ensures { elim result [ Some x ↦ each (suc E.d) S.mean (E.tuple a.now) ≡ embed E.d S.sys.ops (S.mean x) | None ↦ ((x : S.sys.Elem) → each (suc E.d) S.mean (E.tuple a.now) ≢ embed E.d S.sys.ops x) ] }
 {
-    if is_in_basefield(a) {
-        Some(a.coefficient(0))
-    } else {
-        None
-    }
+    is_in_basefield(a).then(|| a.coefficient(0))
 }
 
 // The sum with an element of the layer below.

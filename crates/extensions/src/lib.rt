@@ -14,7 +14,6 @@ pub mod vectors;
 
 ghost use Rattle.algebra.specs.Ring.{Ops, Laws};
 ghost use Rattle.extensions.specs.Classes.{binomial_modulus, trinomial_modulus, ResidueClass};
-ghost use Rattle.extensions.specs.Conjugates.{Conjugation, RootLaw, root_frobenius_map, TableLaw, table_frobenius};
 ghost use Rattle.extensions.specs.Extensions.{extend};
 ghost use Rattle.extensions.specs.Schoolbook.{binomial, trinomial};
 ghost use Rattle.extensions.specs.Tuples.{Tuple};

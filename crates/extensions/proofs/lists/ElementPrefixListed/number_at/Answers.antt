@@ -4,26 +4,29 @@ use Rattle.std.proofs.lemmas.List.{get_or-take, get_or_past}
 use Rattle.extensions.specs.Extensions.{joined}
 use Rattle.extensions.specs.Tuples.{each, entries}
 use Rattle.extensions.proofs.Cuts.{size_positive, beyond_parts, shown_at}
-use Rattle.extensions.proofs.lists.extension_number_at.Goals as goal
-use Rattle.extensions.proofs.lists.extension_number_at.Goals.{then-place-ge-SHOWN-via-then-place-ge-SHOWN, then-place-ge-SHOWN-via-else-place-ge-SHOWN+then-power-degree}
+use Rattle.extensions.proofs.lists.ElementPrefixListed.number_at.Goals as goal
+use Rattle.extensions.proofs.lists.ElementPrefixListed.number_at.Goals.{then-place-ge-SHOWN-via-then-place-ge-SHOWN, then-place-ge-SHOWN-via-else-place-ge-SHOWN+then-power-degree}
 
 pub nonzero_div-power : goal.nonzero_div-power
 nonzero_div-power g c = let h = size_positive g.S.System.sys g.met.S.System.lawful in omega (arith, c.size-part.ensures)
 
 pub returns-then-place-ge-SHOWN : goal.returns-then-place-ge-SHOWN
 returns-then-place-ge-SHOWN g c =
+    let s = g.S.System in
+    let v = g.V.Coefficients in
     let place = c.args.place in
-    let l = g.E.System.sys.list (g.E.System.mean c.args.a.now) in
+    let x = each (suc v.d) s.mean (v.tuple c.args.self.now.value) in
+    let l = joined (suc v.d) s.sys.list x in
     let past : min 65535 (length l) ≤ place → 0 ≡ get_or (take 65535 l) place 0 =
     λ h. sym (get_or_past (take 65535 l) place 0 (subst (λ n. n ≤ place) (sym (length-take 65535 l)) h)) in
-    let size : length l ≡ suc g.E.Coefficients.d * g.S.System.sys.size = g.met.E.System.lawful.list_size (g.E.System.mean c.args.a.now) ∙ g.met.E.Extension.extends.0.size in
+    let size : length l ≡ suc v.d * s.sys.size = g.met.R.Rule.lawful.list_size x in
     elim c.then-place-ge-SHOWN.branch [
       | then-place-ge-SHOWN-via-then-place-ge-SHOWN w ↦ past (omega (arith, w.if-place-ge-SHOWN))
       | then-place-ge-SHOWN-via-else-place-ge-SHOWN+then-power-degree w ↦
           past
           (subst (λ n. min 65535 n ≤ place) (sym size)
-          (beyond_parts (suc g.E.Coefficients.d) g.S.System.sys.size place (omega arith)
-          (subst (λ m. suc g.E.Coefficients.d ≤ place / m) c.size-part.ensures (subst (λ m. m ≤ place / c.size-part.result) w.degree.ensures w.if-power-degree.true))))
+          (beyond_parts (suc v.d) s.sys.size place (omega arith)
+          (subst (λ m. suc v.d ≤ place / m) c.size-part.ensures (subst (λ m. m ≤ place / c.size-part.result) w.degree.ensures w.if-power-degree.true))))
     ]
 
 pub nonzero_rem-place : goal.nonzero_rem-place
@@ -32,11 +35,10 @@ nonzero_rem-place g c = let h = size_positive g.S.System.sys g.met.S.System.lawf
 pub returns : goal.returns
 returns g c =
     let s = g.S.System in
-    let x = g.E.Coefficients in
-    let law = g.met.E.Extension.extends in
+    let v = g.V.Coefficients in
     let place = c.args.place in
-    let n = suc x.d in
-    let t = each n s.mean (x.tuple c.args.a.now) in
+    let n = suc v.d in
+    let t = each n s.mean (v.tuple c.args.self.now.value) in
     let part = c.size-part.result in
     let pos = size_positive s.sys g.met.S.System.lawful in
     let low : place < 65535 = omega (arith, c.if-place-ge-SHOWN.false) in
@@ -48,5 +50,4 @@ returns g c =
     ∙ ap (λ y. get_or (s.sys.list y) (place % part) 0) c.coefficient.ensures
     ∙ ap (λ m. get_or (s.sys.list (get_or (entries n t) (place / m) s.sys.ops.zero)) (place % m) 0) c.size-part.ensures
     ∙ sym (shown_at s.sys.list s.sys.ops.zero s.sys.size pos g.met.S.System.lawful.list_size n t place low lt)
-    ∙ ap (λ l. get_or l place 0) (sym (law.0.list (g.E.System.mean c.args.a.now) ∙ ap (joined n s.sys.list) (law.1 c.args.a.now)))
-    ∙ sym (get_or-take 65535 (g.E.System.sys.list (g.E.System.mean c.args.a.now)) place 0 low)
+    ∙ sym (get_or-take 65535 (joined n s.sys.list t) place 0 low)
