@@ -11,3 +11,4 @@ pub mod Classes
 pub mod Layers
 pub mod Cuts
 pub mod Periods
+pub mod Ranges

@@ -21,7 +21,7 @@ pub trait BinomialConstants<S: System>: Copy {
 pub trait RootConstants<V: Coefficients<S>, S: System>: BinomialConstants<S> {
     ghost z: { S };
 
-    // The root keeps its law: z^n is one, n being the degree, and z^i − 1 has an inverse for each i from 1 to n − 1.
+    // z^n is one, n being the degree, and z^i − 1 has an inverse for each i from 1 to n − 1.
     fn z() -> S
         ensures value { result ≡ z }
         ensures root { RootLaw S.sys.ops (suc V.d) (S.mean result) };

@@ -4,7 +4,8 @@ ghost use Rattle.extensions.specs.Tuples.{Tuple, entries, tabulate, each, fill};
 
 use numbers::system::System;
 
-// A type whose values hold the coefficients of an element. There is a struct for each degree, since the project's rules want coefficients as single named fields: `d` is the degree less one, and `tuple` has the coefficients in their order.
+// A type whose values hold the coefficients of an element: `d` is the degree less one, and `tuple` has them in their order.
+// There is a struct for each degree, since the project's rules want coefficients as single named fields.
 pub trait Coefficients<S: System>: Copy {
     ghost d: { ℕ };
 

@@ -17,8 +17,7 @@ use numbers::system::System;
 pub trait Conjugates<S: System>: Extension<S> {
     ghost conjugate: { Formula S };
 
-    // The Frobenius image. The map keeps sums and products, gives every element back after as many applications as the degree, and leaves exactly the elements of
-    // the layer below where they are.
+    // The Frobenius image. The map keeps sums and products, has the degree as its period, and leaves exactly the elements of the layer below where they are.
     fn frobenius(&self) -> Self
         ensures image { each (suc Self.Coefficients.d) S.mean (Self.Coefficients.tuple result) ≡ conjugate (suc Self.Coefficients.d) S.sys.Elem S.sys.ops S.mean (each (suc Self.Coefficients.d) S.mean (Self.Coefficients.tuple self.now)) }
         ensures conjugation { Conjugation Self.Coefficients.d S.sys.ops (Self.Extension.product (suc Self.Coefficients.d) S.sys.Elem S.sys.ops S.mean) (conjugate (suc Self.Coefficients.d) S.sys.Elem S.sys.ops S.mean) };
@@ -54,7 +53,7 @@ impl<S: System, V: Coefficients<S>, R: ConjugateRule<V, S>> Conjugates<S> for El
     }
 }
 
-// The image by a root z of one: coefficient i times z^i. Where z keeps the root law, these images are conjugates in the extension by a root of X^n − w, whatever w is.
+// The image by a root z of one: coefficient i times z^i. Where z keeps the root law, these are conjugates, whatever w is.
 pub fn root_frobenius<S: System, E: Coefficients<S>>(a: &E, z: &S) -> E
     ensures image { each (suc E.d) S.mean (E.tuple result) ≡ root_frobenius_map (suc E.d) S.sys.ops (S.mean z.now) (each (suc E.d) S.mean (E.tuple a.now)) }
     ensures conjugation { RootLaw S.sys.ops (suc E.d) (S.mean z.now) → (w : S.sys.Elem) → Conjugation E.d S.sys.ops (binomial (suc E.d) S.sys.ops w) (root_frobenius_map (suc E.d) S.sys.ops (S.mean z.now)) }
@@ -68,7 +67,7 @@ pub fn root_frobenius<S: System, E: Coefficients<S>>(a: &E, z: &S) -> E
     res
 }
 
-// That image taken `count` times, where z keeps the root law, a premise since a function that takes any z asks nothing of it: as many applications as the degree give every element back.
+// That image taken `count` times. The root law of z, by which the degree is the period, is a premise: a function that takes any z asks nothing of it.
 pub fn root_repeated_frobenius<S: System, E: Coefficients<S>>(a: &E, z: &S, count: u64) -> E
     ensures { RootLaw S.sys.ops (suc E.d) (S.mean z.now) → each (suc E.d) S.mean (E.tuple result) ≡ repeated (root_frobenius_map (suc E.d) S.sys.ops (S.mean z.now)) count (each (suc E.d) S.mean (E.tuple a.now)) }
 {
@@ -88,8 +87,7 @@ fn other_conjugates<S: System, E: Conjugates<S>>(a: &E) -> E
     prod_conj
 }
 
-// The conjugate inverse: zero for zero; for any other element the product of its other conjugates over the norm, which lies in the layer below; none where no
-// element is an inverse.
+// The conjugate inverse: zero for zero, else the product of the other conjugates over the norm, which lies in the layer below; none where there is no inverse.
 pub fn pseudo_inv<S: System, E: Conjugates<S>>(a: &E) -> Option<E>
     ensures { elim result [ Some b ↦ PseudoInverse E.sys.ops (E.mean a.now) (E.mean b) | None ↦ NoPseudoInverse E.sys.ops (E.mean a.now) ] }
 {

@@ -10,7 +10,8 @@ ghost use Rattle.extensions.specs.Tuples.{Tuple, each};
 use crate::coefficients::Coefficients;
 use numbers::system::System;
 
-// A type that stands for the product modulo a polynomial and has no values of its own to hold: `product` is the product of tuples of any length as a formula, and with that of the degree the elements are a ring over the layer below.
+// A type that stands for the product modulo a polynomial: `product` is that product as a formula, for tuples of any length.
+// V stands before S, so that the crate of a struct of coefficients may say how these are multiplied.
 pub trait Rule<V: Coefficients<S>, S: System>: Copy {
     ghost product: { Products S };
 

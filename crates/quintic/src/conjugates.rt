@@ -1,4 +1,4 @@
-// Inverses by the conjugates that a root z of one gives. They are promised where z keeps the root law: a premise, since a function that takes any z asks nothing of it.
+// Inverses by the conjugates that a root z of one gives. The root law is a premise: a function that takes any z asks nothing of it.
 ghost use Rattle.std.specs.Prelude.{◌≡◌, Some, None};
 ghost use Rattle.algebra.specs.Units.{Inverts, NoInverse};
 ghost use Rattle.extensions.specs.Conjugates.{RootLaw};

@@ -1,4 +1,4 @@
-// Conjugates by a table of rows, and inverses by them. What is promised of a conjugate beyond its definition holds where the rows keep the table law: a premise, since a function that takes any rows asks nothing of them.
+// Conjugates by a table of rows, and inverses by them. The table law is a premise: a function that takes any rows asks nothing of them.
 ghost use Rattle.std.specs.Prelude.{◌≡◌, ℕ, Some, None};
 ghost use Rattle.algebra.specs.Units.{Inverts, NoInverse};
 ghost use Rattle.extensions.specs.Conjugates.{repeated, Conjugation, TableLaw, table_frobenius};

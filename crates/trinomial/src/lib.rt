@@ -3,6 +3,5 @@
 
 pub mod arithmetic;
 pub mod conjugates;
-pub mod frobenius;
 pub mod rows;
 pub mod trinomial;

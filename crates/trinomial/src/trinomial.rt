@@ -1,14 +1,15 @@
 // The extension of degree 5 of any number system, by a root of X^5 + X² − 1.
 ghost use Rattle.std.specs.Prelude.{◌≡◌};
 ghost use Rattle.extensions.specs.Conjugates.{TableLaw};
-ghost use Rattle.trinomial.specs.Rows.{rows, product_of};
+ghost use Rattle.trinomial.specs.Rows.{rows, product_of, table_map};
 ghost use Rattle.trinomial.specs.declared.rows.Rows.{Rows};
 ghost use Rattle.extensions.proofs.Lawful.{trinomial_lawful};
 ghost use Rattle.extensions.proofs.Products.{trinomial_scales};
 
 use crate::arithmetic::{quintic_square, trinomial_quintic_mul};
-use crate::conjugates::trinomial_inv;
+use crate::conjugates::{trinomial_frobenius, trinomial_inv, trinomial_repeated_frobenius};
 use crate::rows::Rows;
+use extensions::conjugates::ConjugateRule;
 use extensions::element::Element;
 use extensions::rule::Rule;
 use numbers::system::System;
@@ -51,5 +52,17 @@ impl<S: System, C: TrinomialConstants<S>> Rule<Quintuple<S>, S> for Trinomial<C>
 
     fn inverse(a: &Quintuple<S>) -> Option<Quintuple<S>> {
         trinomial_inv(a, &C::table())
+    }
+}
+
+impl<S: System, C: TrinomialConstants<S>> ConjugateRule<Quintuple<S>, S> for Trinomial<C> {
+    ghost conjugate = { λ n A o m. table_map n o (rows m C.table) };
+
+    fn frobenius(a: &TrinomialQuintic<S, C>) -> TrinomialQuintic<S, C> {
+        Element::new(trinomial_frobenius(&a.value, &C::table()))
+    }
+
+    fn repeated_frobenius(a: &TrinomialQuintic<S, C>, count: u64) -> TrinomialQuintic<S, C> {
+        Element::new(trinomial_repeated_frobenius(&a.value, &C::table(), count))
     }
 }

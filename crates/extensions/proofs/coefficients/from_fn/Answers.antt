@@ -4,9 +4,6 @@ use Rattle.extensions.proofs.Written.{written_more, tabulated}
 use Rattle.extensions.proofs.coefficients.from_fn.Given.{F-post}
 use Rattle.extensions.proofs.coefficients.from_fn.Goals as goal
 
-pub loop-k-init : goal.loop-k-init
-loop-k-init g c j h = absurd (omega arith)
-
 pub loop-k-preserved : goal.loop-k-preserved
 loop-k-preserved g c =
     let s = g.S.System in

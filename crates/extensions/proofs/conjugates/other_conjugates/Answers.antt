@@ -1,19 +1,9 @@
-use Rattle.std.proofs.Common.{◌≡◌, suc, ◌+◌, ◌-◌, ◌≤◌, sym, ap, ◌∙◌, arith}
+use Rattle.std.proofs.Common.{◌≡◌, suc, ◌+◌, ◌-◌, ◌≤◌, ap, ◌∙◌, arith}
 use Rattle.extensions.specs.Conjugates.{conjugates}
 use Rattle.extensions.specs.Extensions.{extend}
 use Rattle.extensions.specs.Tuples.{each}
 use Rattle.extensions.proofs.Layers.{product_means}
 use Rattle.extensions.proofs.conjugates.other_conjugates.Goals as goal
-
-pub loop-k-init : goal.loop-k-init
-loop-k-init g c =
-    let s = g.S.System in
-    let x = g.E.Coefficients in
-    let a = each (suc x.d) s.mean (x.tuple c.args.a.now) in
-    let φ = g.E.Conjugates.conjugate (suc x.d) s.sys.Elem s.sys.ops s.mean in
-    let times = g.E.Extension.product (suc x.d) s.sys.Elem s.sys.ops s.mean in
-    c.frobenius-prod_conj.ensures.image
-    ∙ ap φ (sym (ap (times a) (c.frobenius-prod_conj.ensures.conjugation.below s.sys.ops.one) ∙ g.met.E.Extension.extends.0.ring.mul-one a))
 
 pub loop-k-preserved : goal.loop-k-preserved
 loop-k-preserved g c =
@@ -34,19 +24,3 @@ loop-k-preserved g c =
     ∙ ap (λ t. times t a) c.loop-k.invariant
     ∙ law.0.ring.mul_comm (φ (conjugates ext φ (k - 1) a)) a
     ∙ ap (λ n. conjugates ext φ n a) next)
-
-pub returns : goal.returns
-returns g c =
-    let s = g.S.System in
-    let x = g.E.Coefficients in
-    let a = each (suc x.d) s.mean (x.tuple c.args.a.now) in
-    let φ = g.E.Conjugates.conjugate (suc x.d) s.sys.Elem s.sys.ops s.mean in
-    let ext = extend x.d s.sys.ops (g.E.Extension.product (suc x.d) s.sys.Elem s.sys.ops s.mean) in
-    let low : 1 ≤ x.d = g.met.E.Coefficients.several in
-    let two : 2 ≤ c.degree-k-end.result = omega (arith, c.degree-k-end.ensures) in
-    let high : c.loop-k._k ≤ c.degree-k-end.result = c.loop-k.auto._k-end two in
-    let last : c.loop-k._k - 1 ≡ x.d = omega (arith, c.degree-k-end.ensures, c.loop-k-test.false) in
-    record {
-      product = c.loop-k.invariant ∙ ap (λ n. φ (conjugates ext φ n a)) last;
-      conjugation = c.frobenius-prod_conj.ensures.conjugation;
-    }

@@ -5,9 +5,6 @@ use Rattle.extensions.proofs.Roots.{root_conjugation}
 use Rattle.extensions.proofs.Written.{at, written_more, tabulated}
 use Rattle.extensions.proofs.conjugates.root_frobenius.Goals as goal
 
-pub loop-k-init : goal.loop-k-init
-loop-k-init g c = (c.new-powers.ensures.0, c.new-powers.ensures.1, λ j h. absurd (omega arith))
-
 pub loop-k-preserved : goal.loop-k-preserved
 loop-k-preserved g c =
     let s = g.S.System in

@@ -17,23 +17,6 @@ returns-then-numbers-degree-ne0 g c =
     uneven d s.sys g.met.S.System.lawful (g.R.Rule.product (suc d) s.sys.Elem s.sys.ops s.mean) c.args.numbers.now
     (λ e. c.if-numbers-degree-ne0.true (ap (λ n. length c.args.numbers.now % n) c.degree-degree.ensures ∙ e))
 
-pub loop-k-init : goal.loop-k-init
-loop-k-init g c j h = absurd (omega arith)
-
-pub offset_bounds-numbers-start : goal.offset_bounds-numbers-start
-offset_bounds-numbers-start g c =
-    let n = c.degree-degree.result in
-    let len = length c.args.numbers.now in
-    let h : c.loop-k.k * (len / n) + len / n ≤ len = part_within n (len / n) c.loop-k.k len c.loop-k-test.true (whole_parts n len c.if-numbers-degree-ne0.false) in
-    search rules
-
-pub slice_bounds-from_list-end : goal.slice_bounds-from_list-end
-slice_bounds-from_list-end g c =
-    let n = c.degree-degree.result in
-    let len = length c.args.numbers.now in
-    let h : c.loop-k.k * (len / n) + len / n ≤ len = part_within n (len / n) c.loop-k.k len c.loop-k-test.true (whole_parts n len c.if-numbers-degree-ne0.false) in
-    search rules
-
 pub returns-in_err-from_list : goal.returns-in_err-from_list
 returns-in_err-from_list g c =
     let s = g.S.System in

@@ -7,9 +7,6 @@ use Rattle.extensions.proofs.Cuts.{size_positive, beyond_parts, shown_at}
 use Rattle.extensions.proofs.lists.ElementPrefixListed.number_at.Goals as goal
 use Rattle.extensions.proofs.lists.ElementPrefixListed.number_at.Goals.{then-place-ge-SHOWN-via-then-place-ge-SHOWN, then-place-ge-SHOWN-via-else-place-ge-SHOWN+then-power-degree}
 
-pub nonzero_div-power : goal.nonzero_div-power
-nonzero_div-power g c = let h = size_positive g.S.System.sys g.met.S.System.lawful in omega (arith, c.size-part.ensures)
-
 pub returns-then-place-ge-SHOWN : goal.returns-then-place-ge-SHOWN
 returns-then-place-ge-SHOWN g c =
     let s = g.S.System in
@@ -28,9 +25,6 @@ returns-then-place-ge-SHOWN g c =
           (beyond_parts (suc v.d) s.sys.size place (omega arith)
           (subst (λ m. suc v.d ≤ place / m) c.size-part.ensures (subst (λ m. m ≤ place / c.size-part.result) w.degree.ensures w.if-power-degree.true))))
     ]
-
-pub nonzero_rem-place : goal.nonzero_rem-place
-nonzero_rem-place g c = let h = size_positive g.S.System.sys g.met.S.System.lawful in omega (arith, c.size-part.ensures)
 
 pub returns : goal.returns
 returns g c =

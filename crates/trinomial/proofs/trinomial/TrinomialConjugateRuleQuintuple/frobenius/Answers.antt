@@ -3,7 +3,7 @@ use Rattle.extensions.specs.Conjugates.{TableLaw, table_frobenius}
 use Rattle.extensions.proofs.Tables.{table_conjugation}
 use Rattle.quintic.specs.Quintuples.{quintuple}
 use Rattle.trinomial.specs.Rows.{rows}
-use Rattle.trinomial.proofs.frobenius.TrinomialConjugateRuleQuintuple.frobenius.Goals as goal
+use Rattle.trinomial.proofs.trinomial.TrinomialConjugateRuleQuintuple.frobenius.Goals as goal
 
 pub returns : goal.returns
 returns g c =
