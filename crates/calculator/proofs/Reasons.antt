@@ -1,7 +1,6 @@
 -- A reason that holds of the words of a line says that no command is written so.
-use Rattle.std.proofs.Common.{◌≡◌, ℕ, ◌+◌, if◌then◌else◌, eqb, ◌⊎◌, List, length, get_or, codes, sym, refl, ap, ◌∙◌, subst, inl, inr, ⊎_elim}
-use Rattle.calculator.specs.Commands.{modulus_text, verb_text, verb_of, operands, Operands, word, Fails, Because, Hindered, Nothing}
-use Rattle.calculator.specs.declared.command.Base.{Base}
+use Rattle.std.proofs.Common.{◌≡◌, ℕ, ◌+◌, if◌then◌else◌, eqb, List, get_or, sym, refl, ap, ◌∙◌, subst, ⊎_elim}
+use Rattle.calculator.specs.Commands.{verb_text, verb_of, operands, Operands, word, Fails, Because, Hindered, Nothing}
 use Rattle.calculator.specs.declared.command.Verb as V
 use Rattle.calculator.specs.declared.command.Verb.{Verb}
 use Rattle.calculator.specs.declared.command.Call.{Call}
@@ -50,27 +49,6 @@ fails_operands (Square a) s t why f h = f.0 a h
 fails_operands (Power a e) s t why f h = ⊎_elim (λ n. n.0 a h.0) (λ n. n.1 e h.1) f
 fails_operands (Entry n) s t why f h = f.0 n h
 fails_operands (Inverse a) s t why f h = f.0 a h
-
--- which reasons an operand gives
-fails_reason : (v : Verb) (s t : List ℕ) (why : Reason) → Fails v s t why → (why ≡ NoElement) ⊎ (why ≡ NoNumber)
-fails_reason V.TheVariants.Sum s t why f = inl f.1
-fails_reason V.TheVariants.Difference s t why f = inl f.1
-fails_reason V.TheVariants.Negative s t why f = inl f.1
-fails_reason V.TheVariants.Multiply s t why f = inl f.1
-fails_reason V.TheVariants.Square s t why f = inl f.1
-fails_reason V.TheVariants.Power s t why f = ⊎_elim (λ n. inl n.1) (λ n. inr n.2) f
-fails_reason V.TheVariants.Entry s t why f = inr f.1
-fails_reason V.TheVariants.Inverse s t why f = inl f.1
-
--- words that are right up to the operands, one of which fails
-pub because_operand : (ws : List (List ℕ)) (b : Base) (v : Verb) → word ws 0 ≡ codes "base" → word ws 1 ≡ modulus_text b → word ws 2 ≡ verb_text v
-    → length ws ≡ 3 + operands v → (f : Fault) → Hindered (Fails v (word ws 3) (word ws 4)) f → Hindered (Because ws) f
-because_operand ws b v k m w n (NoMemory e) h = tt
-because_operand ws b v k m w n (Unreadable why) h =
-    ⊎_elim
-    (λ e. subst (Because ws) (sym e) (k, (b, m), (v, w, n, subst (Fails v (word ws 3) (word ws 4)) e h)))
-    (λ e. subst (Because ws) (sym e) (k, (b, m), (v, w, n, subst (Fails v (word ws 3) (word ws 4)) e h)))
-    (fails_reason v (word ws 3) (word ws 4) why h)
 
 -- the call that a command's words name has the operands that they hold
 fails_nothing : (ws : List (List ℕ)) (v : Verb) (why : Reason) → word ws 2 ≡ verb_text v → Fails v (word ws 3) (word ws 4) why → Nothing ws

@@ -53,12 +53,9 @@ fn answer<S: Listed>(call: &Call<Vec<u64>>) -> Result<S, Refusal>
 fn numbers<S: Listed>(heap: Global, x: &S) -> Result<Vec<u64>, AllocError>
     ensures { IfOk result (λ v. v.items ≡ S.sys.list (S.mean x.now)) }
 {
-    // by places, since a system shows its lists so, and a push may fail
-    let mut found = Vec::new(heap);
-    for i in 0..S::size() {
-        found.push(u64::from(x.number_at(i)))?;
-    }
-    Ok(found)
+    (0..S::size())
+        .map(|i| u64::from(x.number_at(i)))
+        .collect(heap)
 }
 
 // The list of what the call gives in the system.

@@ -1,5 +1,5 @@
 // From a line to the command that it writes.
-ghost use Rattle.std.specs.Prelude.{◌≡◌, [], map, Some, MatchResult, vec_items, slice_index_or};
+ghost use Rattle.std.specs.Prelude.{◌≡◌, map, Some, MatchResult, vec_items};
 ghost use Rattle.calculator.specs.Text.{words, Number, Listing};
 ghost use Rattle.calculator.specs.Commands.{NamesBase, NamesVerb, verb_of, operands, Operands, Writes, Fails, Because, reason_text, NoListing, NotNumber, Hindered, Nothing};
 
@@ -87,13 +87,6 @@ impl fmt::Display for Reason {
 
 impl Error for Reason {}
 
-// The word at a place, and the empty text beyond the last.
-fn word<'a>(line: &[&'a str], place: usize) -> &'a str
-    ensures { result.now ≡ slice_index_or (map (λ x. x.now) line.now) place [] }
-{
-    line.get(place).copied().unwrap_or("")
-}
-
 // The list that an operand is.
 fn element(heap: Global, operand: &str) -> Result<Vec<u64>, Fault>
     ensures { MatchResult result (λ v. Listing operand.now v.items) (Hindered (λ why. NoListing operand.now × (why ≡ Reason.NoElement))) }
@@ -128,15 +121,23 @@ fn call(heap: Global, verb: Verb, first: &str, second: &str) -> Result<Call<Vec<
 fn command(heap: Global, all: &[&str]) -> Result<Command<Vec<u64>>, Fault>
     ensures { MatchResult result (λ c. Writes vec_items c (map (λ x. x.now) all.now)) (Hindered (Because (map (λ x. x.now) all.now))) }
 {
-    if word(all, 0) != "base" {
+    let ["base", rest @ ..] = all else {
         return Err(Fault::Unreadable(Reason::NoBase));
-    }
-    let base = word(all, 1).parse::<Base>()?;
-    let verb = word(all, 2).parse::<Verb>()?;
-    if all.len() != 3 + verb.operands() {
-        return Err(Fault::Unreadable(Reason::WrongOperands));
-    }
-    let call = call(heap, verb, word(all, 3), word(all, 4))?;
+    };
+    let [modulus, rest @ ..] = rest else {
+        return Err(Fault::Unreadable(Reason::UnknownBase));
+    };
+    let base = modulus.parse::<Base>()?;
+    let [name, operands @ ..] = rest else {
+        return Err(Fault::Unreadable(Reason::UnknownCall));
+    };
+    let verb = name.parse::<Verb>()?;
+    let call = match (verb.operands(), operands) {
+        // a call of one operand passes over the second
+        (1, [first]) => call(heap, verb, first, "")?,
+        (2, [first, second]) => call(heap, verb, first, second)?,
+        _ => return Err(Fault::Unreadable(Reason::WrongOperands)),
+    };
     Ok(Command { base, call })
 }
 

@@ -1,5 +1,5 @@
 // Readings in system 8, the residues modulo 11 with X^5 = 2, at the point X.
-ghost use Rattle.std.specs.Prelude.{◌≡◌, true, [], ◌∷◌, length, Ok};
+ghost use Rattle.std.specs.Prelude.{◌≡◌, ◌<◌, ◌^◌, true, [], ◌∷◌, length, Ok};
 ghost use Rattle.catalog.specs.Catalog.{system_8};
 ghost use Rattle.figures.specs.Readings.{X, mean_of, Leaves};
 ghost use Rattle.reading.specs.Sheet.{after, sum_of};
@@ -28,15 +28,13 @@ pub fn root() -> System8
     })
 }
 
-// The figure after any calls at X, which has an inverse.
-fn figure_after(
-    calls: &[Call],
-    out: &mut [Result<Answer<System8>, Refusal>],
-) -> Result<Figure<System8>, Refusal>
-    requires { length out.old ≡ length calls.now }
+// The figure after any calls at X, which has an inverse; the answers to so many calls fit in memory.
+fn figure_after<const N: usize>(calls: &[Call; N]) -> Result<Figure<System8>, Refusal>
+    requires { N < 2 ^ 32 }
     ensures { Leaves result (length (after system_8 [] calls.now)) (system_8.list (sum_of system_8 X (after system_8 [] calls.now))) }
 {
-    let run = read(root(), calls, out)?;
+    let mut out = [Ok(Answer::Count(0)); N];
+    let run = read(root(), calls, &mut out)?;
     Ok(run.figure)
 }
 
@@ -45,15 +43,13 @@ fn figure_after(
 pub fn after_a_drop() -> Result<Figure<System8>, Refusal>
     ensures { Leaves result 3 (4 ∷ 5 ∷ 1 ∷ 0 ∷ 0 ∷ []) }
 {
-    let calls = [
+    figure_after(&[
         Call::Append(3),
         Call::Append(4),
         Call::Append(5),
         Call::Drop,
         Call::Append(1),
-    ];
-    let mut out = [Ok(Answer::Count(0)); 5];
-    figure_after(&calls, &mut out)
+    ])
 }
 
 // The sheet 1,0,0,0,0,1.
@@ -63,9 +59,7 @@ pub fn of_one_and_one() -> Result<Figure<System8>, Refusal>
 {
     let one = Call::Append(1);
     let zero = Call::Append(0);
-    let calls = [one, zero, zero, zero, zero, one];
-    let mut out = [Ok(Answer::Count(0)); 6];
-    figure_after(&calls, &mut out)
+    figure_after(&[one, zero, zero, zero, zero, one])
 }
 
 // The sheet 3,0,0,0,0,0, which has the same figure at X.
@@ -75,9 +69,7 @@ pub fn of_three() -> Result<Figure<System8>, Refusal>
 {
     let three = Call::Append(3);
     let zero = Call::Append(0);
-    let calls = [three, zero, zero, zero, zero, zero];
-    let mut out = [Ok(Answer::Count(0)); 6];
-    figure_after(&calls, &mut out)
+    figure_after(&[three, zero, zero, zero, zero, zero])
 }
 
 // At the one point X these sheets cannot be told apart.
