@@ -6,7 +6,7 @@ use Rattle.bases.specs.Bounds.{Bounds}
 use Rattle.bases.specs.declared.residue.Residue.{Residue}
 
 pub residue_path : {D : Type 0} (x y : Residue D) → x.value ≡ y.value → x ≡ y
-residue_path x y e = λ i. record { value = e i; mark = record {}; small = is_prop→PathP (λ j. e j < 2 ^ 31) (λ j. le_prop) x.small y.small i }
+residue_path x y e = λ i. record { value = e i; modulus = record {}; small = is_prop→PathP (λ j. e j < 2 ^ 31) (λ j. le_prop) x.small y.small i }
 
 pub remainder_small : (n m : ℕ) → Bounds m → n % m < 2 ^ 31
 remainder_small n m b =

@@ -2,6 +2,7 @@
 use Rattle.std.proofs.Common.{◌≡◌, ℕ, ◌+◌, ◌-◌, ◌*◌, ◌%◌, ◌≤◌, T, eqb, [], ◌∷◌, sym, ap, ◌∙◌, subst, ap₂, mod-eq_of_lt, eqb→eq}
 use lib.Dec.{eqb_refl}
 use native.Mathlib.Nat.{mod-mod}
+use Rattle.std.proofs.lemmas.Nat.{mul-mod_first}
 use Rattle.algebra.specs.Ring.{Ops, Laws, sub, total, dot}
 use Rattle.algebra.specs.Units.{Inverts, NoInverse}
 use Rattle.algebra.specs.Expr.{var, 𝟎, ◌⊞◌, same, among}
@@ -9,7 +10,6 @@ use Rattle.algebra.proofs.Solver.{solve}
 use Rattle.bases.specs.Residues as S
 use Rattle.bases.specs.Residues.{Res}
 use Rattle.bases.specs.ResiduesLemmas as P
-use Rattle.bases.specs.ResiduesLemmas.{mod_mul_mod}
 
 -- four summands, from the left
 sum_of_four : {A : Type 0} (o : Ops A) → Laws o → (p q r s : A) → o.add (o.add (o.add p q) r) s ≡ total o (p ∷ q ∷ r ∷ s ∷ [])
@@ -66,4 +66,4 @@ module _ (m : ℕ) (low : 2 ≤ m) (d : ℕ) (is : d ≡ m) where
 
   pub no_inverse : (a : ℕ) → ((j : ℕ) → (a * j) % d ≡ 1 → ⊥) → NoInverse (S.res_ops m low) (res a)
   no_inverse a none x p =
-      none x.0 (subst (λ u. (a * x.0) % u ≡ 1) (sym is) (sym (mod_mul_mod a m x.0) ∙ ap (λ y. y.0) p ∙ mod-eq_of_lt low))
+      none x.0 (subst (λ u. (a * x.0) % u ≡ 1) (sym is) (sym (mul-mod_first a x.0 m) ∙ ap (λ y. y.0) p ∙ mod-eq_of_lt low))

@@ -1,22 +1,15 @@
 -- The laws of the residues modulo m.
-use Rattle.std.specs.Prelude.{◌≡◌, ℕ, zero, suc, ◌+◌, ◌-◌, ◌*◌, ◌/◌, ◌%◌, ◌<◌, ◌≤◌, refl}
+use Rattle.std.specs.Prelude.{◌≡◌, ℕ, zero, suc, ◌+◌, ◌-◌, ◌*◌, ◌%◌, ◌<◌, ◌≤◌, refl}
 use Rattle.std.proofs.Common.{sym, ◌∙◌, ap, mod-eq_of_lt, arith}
 use mathlib.Core.HLevel.{Σ_prop_path}
 use Rattle.std.proofs.Math.Bridge.{le_prop}
 use Rattle.std.proofs.Math.Nat as Nat
-use Rattle.std.proofs.Math.Nat.{mod-add-mod, add-mod-mod, mod_self, mod-add-div, add-mul-mod_self_left}
+use Rattle.std.proofs.Math.Nat.{add-mod, mod-add-mod, add-mod-mod, mod_self}
+use Rattle.std.proofs.lemmas.Nat.{mul-mod, mul-mod_first, mul-mod_second}
 use Rattle.algebra.specs.Ring.{Laws, multiple}
 use Rattle.numbers.specs.Systems.{Lawful}
 use Rattle.bases.specs.Residues as S
 use Rattle.bases.specs.Residues.{Res}
-
-pub mod_mul_mod : (n m k : ℕ) → (n % m * k) % m ≡ (n * k) % m
-mod_mul_mod n m k =
-    let e : n % m * k + m * (n / m * k) ≡ n * k = (omega (arith, ap (λ t. t * k) (mod-add-div n m))) in
-    sym (ap (λ t. t % m) (sym e) ∙ add-mul-mod_self_left (n % m * k) m (n / m * k))
-
-pub mul_mod_mod : (n m k : ℕ) → (n * (k % m)) % m ≡ (n * k) % m
-mul_mod_mod n m k = ap (λ t. t % m) (Nat.mul_comm n (k % m)) ∙ mod_mul_mod k m n ∙ ap (λ t. t % m) (Nat.mul_comm k n)
 
 module _ (m : ℕ) (low : 2 ≤ m) where
   infixl 60 ◌⊕◌
@@ -38,10 +31,10 @@ module _ (m : ℕ) (low : 2 ≤ m) where
 
   -- the remainder of a sum is the sum of the remainders, and so for products
   pub res_add : (j k : ℕ) → res (j + k) ≡ res j ⊕ res k
-  res_add j k = res_same (j + k) (j % m + k % m) (sym (mod-add-mod j m (k % m) ∙ add-mod-mod j k m))
+  res_add j k = res_same (j + k) (j % m + k % m) (add-mod j k m)
 
   pub res_mul : (j k : ℕ) → res (j * k) ≡ res j ⊗ res k
-  res_mul j k = res_same (j * k) (j % m * (k % m)) (sym (mod_mul_mod j m (k % m) ∙ mul_mod_mod j m k))
+  res_mul j k = res_same (j * k) (j % m * (k % m)) (mul-mod j k m)
 
   add_assoc : (x y z : Res m) → (x ⊕ y) ⊕ z ≡ x ⊕ (y ⊕ z)
   add_assoc x y z =
@@ -60,15 +53,15 @@ module _ (m : ℕ) (low : 2 ≤ m) where
   mul_assoc : (x y z : Res m) → (x ⊗ y) ⊗ z ≡ x ⊗ (y ⊗ z)
   mul_assoc x y z =
       res_same ((x.0 * y.0) % m * z.0) (x.0 * ((y.0 * z.0) % m))
-      (mod_mul_mod (x.0 * y.0) m z.0 ∙ ap (λ t. t % m) (Nat.mul_assoc x.0 y.0 z.0) ∙ sym (mul_mod_mod x.0 m (y.0 * z.0)))
+      (mul-mod_first (x.0 * y.0) z.0 m ∙ ap (λ t. t % m) (Nat.mul_assoc x.0 y.0 z.0) ∙ sym (mul-mod_second x.0 (y.0 * z.0) m))
 
   mul-one : (x : Res m) → x ⊗ res 1 ≡ x
-  mul-one x = res_same (x.0 * (1 % m)) x.0 (mul_mod_mod x.0 m 1 ∙ ap (λ t. t % m) (Nat.mul-one x.0)) ∙ res_of x
+  mul-one x = res_same (x.0 * (1 % m)) x.0 (mul-mod_second x.0 1 m ∙ ap (λ t. t % m) (Nat.mul-one x.0)) ∙ res_of x
 
   mul-add : (x y z : Res m) → x ⊗ (y ⊕ z) ≡ x ⊗ y ⊕ x ⊗ z
   mul-add x y z =
       res_same (x.0 * ((y.0 + z.0) % m)) (x.0 * y.0 + x.0 * z.0)
-      (mul_mod_mod x.0 m (y.0 + z.0) ∙ ap (λ t. t % m) (Nat.mul-add x.0 y.0 z.0))
+      (mul-mod_second x.0 (y.0 + z.0) m ∙ ap (λ t. t % m) (Nat.mul-add x.0 y.0 z.0))
       ∙ res_add (x.0 * y.0) (x.0 * z.0)
 
   pub res_laws : Laws (S.res_ops m low)

@@ -56,17 +56,13 @@ impl System for Bit {
     }
 
     fn neg(&self) -> Bit {
-        Bit { on: self.on }
+        *self
     }
 
     fn mul(&self, other: &Bit) -> Bit {
         Bit {
             on: self.on & other.on,
         }
-    }
-
-    fn square(&self) -> Bit {
-        self.mul(self)
     }
 
     fn dot_product_4(
@@ -97,7 +93,7 @@ impl System for Bit {
     }
 
     fn inverse(&self) -> Option<Bit> {
-        if self.on { Some(*self) } else { None }
+        self.on.then_some(*self)
     }
 }
 

@@ -21,7 +21,6 @@ pub(crate) fn inverse_modulo(m: u64, a: u64) -> Option<u64>
         t0 = t1;
         t1 = t2;
     }
-    // the greatest common divisor of m and a is 1
-    let unit = r0 == 1;
-    if unit { Some(t0) } else { None }
+    // r0 is the greatest common divisor of m and a
+    (r0 == 1).then_some(t0)
 }

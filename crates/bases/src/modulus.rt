@@ -3,19 +3,17 @@ ghost use Rattle.std.proofs.Common.{lit≤, lit<};
 ghost use Rattle.std.specs.Prelude.{◌≡◌, ℕ};
 ghost use Rattle.bases.specs.Bounds.{Bounds};
 
-// A type that stands for a modulus m, from 2 to 2^31 − 1. It is a type for each m and not one with a const parameter: a parameter could not bring the proof that it is in range.
+// A type that stands for a modulus from 2 to 2^31 − 1. A const parameter would bring no proof of its range.
 pub trait Modulus {
-    // The modulus m.
     const MODULUS: u32;
 
     ghost MODULUS: { ℕ };
 
-    // It is in range.
     ghost bounds: { Bounds MODULUS };
 }
 
 // The prime 2^31 − 2^24 + 1.
-#[derive(Clone, Copy, Default)]
+#[derive(Clone, Copy)]
 pub struct KoalaBear;
 
 impl Modulus for KoalaBear {
@@ -27,7 +25,7 @@ impl Modulus for KoalaBear {
 }
 
 // The prime 2^31 − 1.
-#[derive(Clone, Copy, Default)]
+#[derive(Clone, Copy)]
 pub struct Mersenne31;
 
 impl Modulus for Mersenne31 {
@@ -39,7 +37,7 @@ impl Modulus for Mersenne31 {
 }
 
 // The prime 2^31 − 2^27 + 1.
-#[derive(Clone, Copy, Default)]
+#[derive(Clone, Copy)]
 pub struct BabyBear;
 
 impl Modulus for BabyBear {
@@ -51,7 +49,7 @@ impl Modulus for BabyBear {
 }
 
 // The prime 11.
-#[derive(Clone, Copy, Default)]
+#[derive(Clone, Copy)]
 pub struct Eleven;
 
 impl Modulus for Eleven {

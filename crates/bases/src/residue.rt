@@ -12,15 +12,14 @@ use numbers::system::System;
 use std::alloc::AllocError;
 use std::marker::PhantomData;
 
-// A residue modulo the m of `M`. It holds any number below 2^31, which means its remainder, so a residue may be held in several ways.
+// A residue modulo the m of `M`. Any number below 2^31 with that remainder may hold it.
 pub struct Residue<M> {
     value: u32,
-    // says which modulus; it takes no room
-    mark: PhantomData<M>,
+    modulus: PhantomData<M>,
     ghost small: { value < 2 ^ 31 },
 }
 
-// Clone is not derived, as it cannot be beside a ghost field, by `derive` or by `derive_where`.
+// By hand, since `Clone` cannot be derived beside a ghost field.
 impl<M> Clone for Residue<M> {
     ghost is_clone = { λ x y. y ≡ x };
 
@@ -38,11 +37,7 @@ impl<M: Modulus> Residue<M> {
     pub fn new(value: u32) -> Option<Residue<M>>
         ensures { elim result [ Some v ↦ (value < 2 ^ 31) × (v.value ≡ value) | None ↦ 2 ^ 31 ≤ value ] }
     {
-        if value < 0x8000_0000 {
-            Some(Self::held(value))
-        } else {
-            None
-        }
+        (value < 0x8000_0000).then(|| Self::held(value))
     }
 
     // The residue of any number, which holds its remainder.
@@ -59,7 +54,7 @@ impl<M: Modulus> Residue<M> {
     {
         Residue {
             value,
-            mark: PhantomData,
+            modulus: PhantomData,
         }
     }
 }
@@ -94,12 +89,8 @@ impl<M: Modulus> System for Residue<M> {
     }
 
     fn mul(&self, other: &Residue<M>) -> Residue<M> {
-        let m = M::MODULUS as u64;
-        Self::held((self.value as u64 * other.value as u64 % m) as u32)
-    }
-
-    fn square(&self) -> Residue<M> {
-        self.mul(self)
+        let m = u64::from(M::MODULUS);
+        Self::held((u64::from(self.value) * u64::from(other.value) % m) as u32)
     }
 
     fn dot_product_4(
@@ -112,11 +103,11 @@ impl<M: Modulus> System for Residue<M> {
         a3: &Residue<M>,
         b3: &Residue<M>,
     ) -> Residue<M> {
-        let m = M::MODULUS as u64;
-        let p0 = a0.value as u64 * b0.value as u64 % m;
-        let p1 = a1.value as u64 * b1.value as u64 % m;
-        let p2 = a2.value as u64 * b2.value as u64 % m;
-        let p3 = a3.value as u64 * b3.value as u64 % m;
+        let m = u64::from(M::MODULUS);
+        let p0 = u64::from(a0.value) * u64::from(b0.value) % m;
+        let p1 = u64::from(a1.value) * u64::from(b1.value) % m;
+        let p2 = u64::from(a2.value) * u64::from(b2.value) % m;
+        let p3 = u64::from(a3.value) * u64::from(b3.value) % m;
         Self::held(((p0 + p1 + p2 + p3) % m) as u32)
     }
 
@@ -126,7 +117,7 @@ impl<M: Modulus> System for Residue<M> {
     }
 
     fn entry(n: u64) -> Result<Residue<M>, Refusal> {
-        let limit = M::MODULUS as u64;
+        let limit = u64::from(M::MODULUS);
         if n < limit {
             Ok(Self::held(n as u32))
         } else {
@@ -135,7 +126,7 @@ impl<M: Modulus> System for Residue<M> {
     }
 
     fn inverse(&self) -> Option<Residue<M>> {
-        let t = inverse_modulo(M::MODULUS as u64, self.value as u64)?;
+        let t = inverse_modulo(u64::from(M::MODULUS), u64::from(self.value))?;
         Some(Self::held(t as u32))
     }
 }

@@ -17,7 +17,7 @@ use quadratic::quadratic::Quadratic;
 pub struct Whole<const N: u32>;
 
 impl<M: Modulus, const N: u32> BinomialConstants<Residue<M>> for Whole<N> {
-    ghost w = { record { value = N % M.MODULUS; mark = record {}; small = remainder_small N M.MODULUS M.bounds } };
+    ghost w = { record { value = N % M.MODULUS; modulus = record {}; small = remainder_small N M.MODULUS M.bounds } };
 
     fn w() -> Residue<M> {
         Residue::of(N)
@@ -39,7 +39,7 @@ pub type Complex = Quadratic<Residue<Mersenne31>, MinusOne>;
 pub struct FiveI;
 
 impl BinomialConstants<Complex> for FiveI {
-    ghost w = { record { value = record { c0 = record { value = 0; mark = record {}; small = lit< tt }; c1 = record { value = 5; mark = record {}; small = lit< tt } }; below = record {}; rule = record {} } };
+    ghost w = { record { value = record { c0 = record { value = 0; modulus = record {}; small = lit< tt }; c1 = record { value = 5; modulus = record {}; small = lit< tt } }; below = record {}; rule = record {} } };
 
     fn w() -> Complex {
         Element::new(Pair {

@@ -13,7 +13,7 @@ use quartic::quadruple::Quadruple;
 use quintic::quintuple::Quintuple;
 
 impl RootConstants<Quadruple<Residue<KoalaBear>>, Residue<KoalaBear>> for Whole<3> {
-    ghost z = { record { value = 2113994754; mark = record {}; small = lit< tt } };
+    ghost z = { record { value = 2113994754; modulus = record {}; small = lit< tt } };
 
     fn z() -> Residue<KoalaBear> {
         Residue::of(2_113_994_754)
@@ -21,7 +21,7 @@ impl RootConstants<Quadruple<Residue<KoalaBear>>, Residue<KoalaBear>> for Whole<
 }
 
 impl RootConstants<Octuple<Residue<KoalaBear>>, Residue<KoalaBear>> for Whole<3> {
-    ghost z = { record { value = 1748172362; mark = record {}; small = lit< tt } };
+    ghost z = { record { value = 1748172362; modulus = record {}; small = lit< tt } };
 
     fn z() -> Residue<KoalaBear> {
         Residue::of(1_748_172_362)
@@ -29,7 +29,7 @@ impl RootConstants<Octuple<Residue<KoalaBear>>, Residue<KoalaBear>> for Whole<3>
 }
 
 impl RootConstants<Pair<Residue<Mersenne31>>, Residue<Mersenne31>> for MinusOne {
-    ghost z = { record { value = 2147483646; mark = record {}; small = lit< tt } };
+    ghost z = { record { value = 2147483646; modulus = record {}; small = lit< tt } };
 
     fn z() -> Residue<Mersenne31> {
         Residue::of(2_147_483_646)
@@ -37,7 +37,7 @@ impl RootConstants<Pair<Residue<Mersenne31>>, Residue<Mersenne31>> for MinusOne 
 }
 
 impl RootConstants<Triple<Complex>, Complex> for FiveI {
-    ghost z = { record { value = record { c0 = record { value = 634005911; mark = record {}; small = lit< tt }; c1 = record { value = 0; mark = record {}; small = lit< tt } }; below = record {}; rule = record {} } };
+    ghost z = { record { value = record { c0 = record { value = 634005911; modulus = record {}; small = lit< tt }; c1 = record { value = 0; modulus = record {}; small = lit< tt } }; below = record {}; rule = record {} } };
 
     fn z() -> Complex {
         Element::new(Pair {
@@ -48,7 +48,7 @@ impl RootConstants<Triple<Complex>, Complex> for FiveI {
 }
 
 impl RootConstants<Quintuple<Residue<BabyBear>>, Residue<BabyBear>> for Whole<31> {
-    ghost z = { record { value = 645581151; mark = record {}; small = lit< tt } };
+    ghost z = { record { value = 645581151; modulus = record {}; small = lit< tt } };
 
     fn z() -> Residue<BabyBear> {
         Residue::of(645_581_151)
@@ -56,7 +56,7 @@ impl RootConstants<Quintuple<Residue<BabyBear>>, Residue<BabyBear>> for Whole<31
 }
 
 impl RootConstants<Quintuple<Residue<Eleven>>, Residue<Eleven>> for Whole<2> {
-    ghost z = { record { value = 4; mark = record {}; small = lit< tt } };
+    ghost z = { record { value = 4; modulus = record {}; small = lit< tt } };
 
     fn z() -> Residue<Eleven> {
         Residue::of(4)

@@ -1,4 +1,4 @@
--- The eight refusals: the number that a host call answers, and the word that a person reads.
+-- The refusals: the number that a host call answers, and the word that a person reads.
 use Rattle.std.specs.Prelude.{ℕ, List, ◌++◌, codes, decimal}
 use Rattle.numbers.specs.declared.refusal.Refusal.{Refusal}
 use Rattle.numbers.specs.declared.refusal.Refusal.TheVariants.{StrangeSystem, CutList, OverLimit, NoInverse, NoConjugates, FullSheet, EmptySheet, NoSuchPlace}

@@ -5,9 +5,9 @@ ghost use Rattle.numbers.specs.Lists.{Refused};
 use crate::refusal::Refusal;
 use crate::system::System;
 
-// A system that reads whole lists and shows the first numbers of them. Its size may be any number, so what is answered of it stops at 65,535.
+// A system that reads whole lists and shows the first 65,535 numbers of them, as its size may be any number.
 pub trait PrefixListed: System {
-    // The length of an element's list, which stops at 65,535.
+    // The length of an element's list, or 65,535 where it is longer.
     fn size() -> usize
         ensures { result ≡ min Self.System.sys.size 65535 };
 
@@ -20,7 +20,7 @@ pub trait PrefixListed: System {
         ensures { result ≡ slice_index (take 65535 (Self.System.sys.list (Self.System.mean self.now))) place };
 }
 
-// A system whose lists are shown whole, so that its size and the number at any place are answered exactly.
+// A system whose lists are short enough to be shown whole.
 pub trait Listed: PrefixListed {
     ghost whole: { Self.System.sys.size ≤ 65535 };
 }

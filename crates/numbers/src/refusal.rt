@@ -25,7 +25,7 @@ pub enum Refusal {
 }
 
 impl Refusal {
-    // The number that stands for the refusal, from 1 to 8.
+    // The number that stands for the refusal.
     pub fn number(&self) -> u32
         ensures { result ≡ number_of self.now }
     {

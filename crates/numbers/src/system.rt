@@ -6,8 +6,7 @@ ghost use Rattle.numbers.specs.Systems.{Sys, Lawful};
 
 use crate::refusal::Refusal;
 
-// A type whose values are elements of a number system. `sys` is the system, `mean` is the element that a value means, and each function's answer is told
-// by what it means. Two values may mean one element. No function changes an operand.
+// A type whose values mean elements of the number system `sys`, each the element `mean` of it. Two values may mean one element.
 pub trait System: Copy {
     ghost sys: { Sys };
 
@@ -33,7 +32,10 @@ pub trait System: Copy {
         ensures { mean result ≡ sys.ops.mul (mean self.now) (mean other.now) };
 
     fn square(&self) -> Self
-        ensures { mean result ≡ sys.ops.mul (mean self.now) (mean self.now) };
+        ensures { mean result ≡ sys.ops.mul (mean self.now) (mean self.now) }
+    {
+        self.mul(self)
+    }
 
     // The sum of four products, a0 × b0 + a1 × b1 + a2 × b2 + a3 × b3.
     fn dot_product_4(

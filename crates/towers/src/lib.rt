@@ -32,7 +32,7 @@ impl Modulus for Twelve {
 pub struct Five;
 
 impl BinomialConstants<Residue<Twelve>> for Five {
-    ghost w = { record { value = 5; mark = record {}; small = lit< tt } };
+    ghost w = { record { value = 5; modulus = record {}; small = lit< tt } };
 
     fn w() -> Residue<Twelve> {
         Residue::of(5)
@@ -44,7 +44,7 @@ impl BinomialConstants<Residue<Twelve>> for Five {
 pub struct CubicRoot;
 
 impl BinomialConstants<Cubic<Residue<Twelve>, Five>> for CubicRoot {
-    ghost w = { record { value = record { c0 = record { value = 0; mark = record {}; small = lit< tt }; c1 = record { value = 1; mark = record {}; small = lit< tt }; c2 = record { value = 0; mark = record {}; small = lit< tt } }; below = record {}; rule = record {} } };
+    ghost w = { record { value = record { c0 = record { value = 0; modulus = record {}; small = lit< tt }; c1 = record { value = 1; modulus = record {}; small = lit< tt }; c2 = record { value = 0; modulus = record {}; small = lit< tt } }; below = record {}; rule = record {} } };
 
     fn w() -> Cubic<Residue<Twelve>, Five> {
         Element::new(Triple {

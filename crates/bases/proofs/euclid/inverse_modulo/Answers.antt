@@ -1,5 +1,6 @@
-use Rattle.std.proofs.Common.{◌≡◌, ◌*◌, ◌%◌, ◌<◌, sym, ap, ◌∙◌, mod-lt, mod-eq_of_lt, mul-zero, mul-one, arith, rules}
+use Rattle.std.proofs.Common.{◌≡◌, ◌*◌, ◌%◌, ◌<◌, sym, ap, ◌∙◌, mod-lt, mod-eq_of_lt, mul-zero, inl, inr, mul-one, arith, rules}
 use native.Mathlib.Nat.{mod-mod, mod_self}
+use Rattle.std.proofs.lemmas.Bool.Decides.{eqb_tells}
 use Rattle.bases.proofs.Divisors.{common_start, common_step, no_inverse, euclid_step}
 use Rattle.bases.proofs.euclid.inverse_modulo.Goals as goal
 
@@ -35,18 +36,14 @@ loop-r1-preserved c =
       common_step a m l.r0 l.r1 inv.6,
     )
 
-pub returns-then-unit : goal.returns-then-unit
-returns-then-unit c =
+pub returns : goal.returns
+returns c =
     let m = c.args.m in
+    let a = c.args.a in
     let t0 = c.loop-r1.t0 in
     let inv = c.loop-r1.invariant in
-    let last : c.loop-r1.r0 ≡ 1 = search rules in
-    let inverse : (t0 < m) × ((c.args.a * t0) % m ≡ 1) = (inv.2, inv.4 ∙ ap (λ t. t % m) last ∙ mod-eq_of_lt c.requires.low) in
-    inverse
-
-pub returns-else-unit : goal.returns-else-unit
-returns-else-unit c =
-    let r0 = c.loop-r1.r0 in
     let zero : c.loop-r1.r1 ≡ 0 = search rules in
-    let more : r0 ≡ 1 → ⊥ = search rules in
-    no_inverse c.args.a c.args.m r0 c.loop-r1.r1 zero more c.loop-r1.invariant.6
+    let some : c.loop-r1.r0 ≡ 1 → (t0 < m) × ((a * t0) % m ≡ 1) = λ last. (inv.2, inv.4 ∙ ap (λ t. t % m) last ∙ mod-eq_of_lt c.requires.low) in
+    let none = λ (more : c.loop-r1.r0 ≡ 1 → ⊥). no_inverse a m c.loop-r1.r0 c.loop-r1.r1 zero more inv.6 in
+    rw c.then_some.ensures
+    (elim (eqb_tells c.loop-r1.r0 1) [ inl e ↦ rw e.0 (some e.1) | inr e ↦ rw e.0 (none e.1) ])

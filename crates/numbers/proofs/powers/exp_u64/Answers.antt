@@ -18,10 +18,10 @@ loop-j-preserved g c =
     elim c.if-exponent-j-ne0.branch [
       | then-exponent-j-ne0 w ↦
           turn 1 c.loop-j.invariant (omega (arith, mask, w.if-exponent-j-ne0.true, mod-lt (e / 2 ^ j) two))
-          (ap s.mean w.product-is ∙ w.mul-product.ensures ∙ ap (s.sys.ops.mul (s.mean c.loop-j.product)) (sym (L.mul-one (s.mean c.loop-j.current))))
+          (cc (w.product-is, w.mul-product.ensures, L.mul-one (s.mean c.loop-j.current)))
           c.square-current.ensures
       | else-exponent-j-ne0 w ↦
-          turn 0 c.loop-j.invariant (omega (arith, mask, w.if-exponent-j-ne0.false)) (ap s.mean w.product-is ∙ sym (L.mul-one (s.mean c.loop-j.product))) c.square-current.ensures
+          turn 0 c.loop-j.invariant (omega (arith, mask, w.if-exponent-j-ne0.false)) (cc (w.product-is, L.mul-one (s.mean c.loop-j.product))) c.square-current.ensures
     ]
 
 pub returns : goal.returns

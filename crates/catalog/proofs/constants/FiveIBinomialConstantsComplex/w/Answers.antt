@@ -7,8 +7,8 @@ use Rattle.catalog.proofs.constants.FiveIBinomialConstantsComplex.w.Goals as goa
 
 pub returns : goal.returns
 returns c =
-    let low : Residue Mersenne31 = record { value = 0; mark = record {}; small = lit< tt } in
-    let high : Residue Mersenne31 = record { value = 5; mark = record {}; small = lit< tt } in
+    let low : Residue Mersenne31 = record { value = 0; modulus = record {}; small = lit< tt } in
+    let high : Residue Mersenne31 = record { value = 5; modulus = record {}; small = lit< tt } in
     let same : c.new.result.value ≡ record { c0 = low; c1 = high } =
     c.new.ensures ∙ (λ i. record { c0 = residue_path c.of.result low c.of.ensures i; c1 = residue_path c.of-2.result high c.of-2.ensures i }) in
     λ i. record { value = same i; below = record {}; rule = record {} }

@@ -13,8 +13,8 @@ use Rattle.catalog.proofs.roots.FiveIRootConstantsTripleComplexComplex.z.Goals a
 
 pub returns : goal.returns
 returns c =
-    let low : Residue Mersenne31 = record { value = 634005911; mark = record {}; small = lit< tt } in
-    let high : Residue Mersenne31 = record { value = 0; mark = record {}; small = lit< tt } in
+    let low : Residue Mersenne31 = record { value = 634005911; modulus = record {}; small = lit< tt } in
+    let high : Residue Mersenne31 = record { value = 0; modulus = record {}; small = lit< tt } in
     let written : Pair (Residue Mersenne31) = record { c0 = low; c1 = high } in
     let same : c.new.result.value ≡ written = c.new.ensures ∙ (λ i. record { c0 = residue_path c.of.result low c.of.ensures i; c1 = residue_path c.of-2.result high c.of-2.ensures i }) in
     record {
