@@ -1,5 +1,5 @@
--- The nine systems keep the laws of number systems.
-use lib.Dec.{lit≤}
+-- Systems of the catalog, and the systems below them, keep the laws of number systems.
+use Rattle.std.proofs.Common.{lit≤}
 use Rattle.bases.specs.Residues.{res}
 use Rattle.bases.specs.BitsLemmas.{bits_lawful}
 use Rattle.bases.specs.ResiduesLemmas.{residues_lawful}

@@ -1,11 +1,6 @@
 -- The roots of one keep the root law, by computing: the power, and an inverse of each difference from one.
-use mathlib.Core.Path.{◌≡◌, refl, subst}
-use mathlib.Core.List.{List, [], ◌∷◌, map}
+use Rattle.std.proofs.Common.{◌≡◌, ℕ, suc, ◌+◌, ◌<◌, List, [], ◌∷◌, map, length, refl, subst, arith, lit≤}
 use Prim.Native.Nat as N
-use Prim.Native.Nat.{ℕ, suc, ◌+◌, ◌<◌}
-use native.Mathlib.Omega.{arith}
-use lib.Dec.{lit≤}
-use lib.ListN.{length}
 use Rattle.algebra.specs.Ring.{sub, power}
 use Rattle.algebra.specs.Units.{Inverts, IsUnit}
 use Rattle.numbers.specs.Systems.{Sys, Lawful}

@@ -1,8 +1,5 @@
 -- The two tables keep their law, by computing: the rows are powers of the first, five applications give X back, and four rows of numbers single out the coefficients above power 0.
-use mathlib.Core.Path.{◌≡◌, refl}
-use mathlib.Core.Bool.{Bool, true, false}
-use Prim.Native.Nat.{ℕ}
-use lib.Dec.{lit≤}
+use Rattle.std.proofs.Common.{◌≡◌, ℕ, Bool, true, false, refl, lit≤}
 use Rattle.bases.specs.Bits.{bit_ops}
 use Rattle.bases.specs.Residues.{Res, res}
 use Rattle.bases.specs.BitsLemmas.{bits_lawful}
