@@ -1,10 +1,10 @@
 -- The norm of the cubic extension of any commutative ring, and inverses by it.
-use Rattle.std.proofs.Common.{◌≡◌, ℕ, [], ◌∷◌, sym, ap, ◌∙◌}
+use Rattle.std.proofs.Common.{◌≡◌, ℕ, [], ◌∷◌, ◌++◌, sym, ap, ◌∙◌}
 use Rattle.algebra.specs.Ring.{Ops, Laws, sub}
 use Rattle.algebra.specs.Units.{Inverts}
 use Rattle.algebra.specs.Expr.{Expr, var, 𝟏, 𝟎, ◌⊠◌, exprs, same, among}
 use Rattle.algebra.proofs.Solver.{solve, solve_by}
-use Rattle.extensions.specs.Tuples.{Tuple}
+use Rattle.extensions.specs.Tuples.{Tuple, entries}
 use Rattle.extensions.specs.Schoolbook.{binomial}
 use Rattle.extensions.specs.Extensions.{extend}
 use Rattle.extensions.proofs.Tuples.{vars}
@@ -27,7 +27,7 @@ module _ {A : Type 0} (o : Ops A) (L : Laws o) (w : A) where
   norm_mul a b =
       let x : Tuple 3 Expr = vars 3 0 in
       let y : Tuple 3 Expr = vars 3 3 in
-      solve o L (among o (a.0 ∷ a.1.0 ∷ a.1.1.0 ∷ b.0 ∷ b.1.0 ∷ b.1.1.0 ∷ w ∷ []))
+      solve o L (among o (entries 3 a ++ entries 3 b ++ w ∷ []))
       (norm exprs (var 6) (binomial 3 exprs (var 6) x y)) (norm exprs (var 6) x ⊠ norm exprs (var 6) y) tt
 
   -- the norm of one is one
@@ -40,7 +40,7 @@ module _ {A : Type 0} (o : Ops A) (L : Laws o) (w : A) where
   unfolding same
   inverse_is_by_norm a n e =
       let x : Tuple 3 Expr = vars 3 0 in
-      let env : ℕ → A = among o (a.0 ∷ a.1.0 ∷ a.1.1.0 ∷ w ∷ n ∷ []) in
+      let env : ℕ → A = among o (entries 3 a ++ w ∷ n ∷ []) in
       let p : Tuple 3 Expr = binomial 3 exprs (var 3) x (adjugate_times exprs (var 3) (var 4) x) in
       λ i. (
         solve_by o L env (norm exprs (var 3) x ⊠ var 4) 𝟏 𝟏 p.0 𝟏 e tt i,

@@ -1,2 +1,2 @@
-pub mod Sums
+pub mod Coefficients
 pub mod Tower

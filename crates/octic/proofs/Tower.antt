@@ -1,9 +1,9 @@
 -- The octic extension is the quadratic extension, by a root of X² - Y, of the quartic extension by a root Y of Y⁴ - w.
-use Rattle.std.proofs.Common.{◌≡◌, ℕ, [], ◌∷◌, refl}
+use Rattle.std.proofs.Common.{◌≡◌, ℕ, [], ◌∷◌, ◌++◌, refl}
 use Rattle.algebra.specs.Ring.{Ops, Laws}
 use Rattle.algebra.specs.Units.{Inverts}
 use Rattle.algebra.specs.Expr.{Expr, var, 𝟎, 𝟏, ◌⊠◌, exprs, same, among}
-use Rattle.extensions.specs.Tuples.{Tuple}
+use Rattle.extensions.specs.Tuples.{Tuple, entries}
 use Rattle.extensions.specs.Schoolbook.{binomial}
 use Rattle.extensions.specs.Extensions.{extend}
 use Rattle.extensions.proofs.Tuples.{vars, solves}
@@ -27,15 +27,14 @@ module _ {A : Type 0} (o : Ops A) (L : Laws o) (w : A) where
   pub root_mul : (t : Tuple 4 A) → binomial 4 o w root t ≡ (o.mul w t.1.1.1.0, (t.0, (t.1.0, (t.1.1.0, tt))))
   unfolding same
   root_mul t =
-      solves o L (among o (t.0 ∷ t.1.0 ∷ t.1.1.0 ∷ t.1.1.1.0 ∷ w ∷ [])) 4
+      solves o L (among o (entries 4 t ++ w ∷ [])) 4
       (binomial 4 exprs (var 4) (𝟎, (𝟏, (𝟎, (𝟎, tt)))) (vars 4 0)) (var 4 ⊠ var 3, (var 0, (var 1, (var 2, tt)))) tt
 
   -- products go over into products of the extension of the ring below
   pub split_mul : (a b : Tuple 8 A) → split (binomial 8 o w a b) ≡ binomial 2 quartic root (split a) (split b)
   unfolding same
   split_mul a b =
-      let env : ℕ → A =
-      among o (a.0 ∷ a.1.0 ∷ a.1.1.0 ∷ a.1.1.1.0 ∷ a.1.1.1.1.0 ∷ a.1.1.1.1.1.0 ∷ a.1.1.1.1.1.1.0 ∷ a.1.1.1.1.1.1.1.0 ∷ b.0 ∷ b.1.0 ∷ b.1.1.0 ∷ b.1.1.1.0 ∷ b.1.1.1.1.0 ∷ b.1.1.1.1.1.0 ∷ b.1.1.1.1.1.1.0 ∷ b.1.1.1.1.1.1.1.0 ∷ w ∷ []) in
+      let env : ℕ → A = among o (entries 8 a ++ entries 8 b ++ w ∷ []) in
       let p : Tuple 2 (Tuple 4 Expr) = split (binomial 8 exprs (var 16) (vars 8 0) (vars 8 8)) in
       let q : Tuple 2 (Tuple 4 Expr) = binomial 2 (extend 3 exprs (binomial 4 exprs (var 16))) (𝟎, (𝟏, (𝟎, (𝟎, tt)))) (split (vars 8 0)) (split (vars 8 8)) in
       λ i. (solves o L env 4 p.0 q.0 tt i, (solves o L env 4 p.1.0 q.1.0 tt i, tt))

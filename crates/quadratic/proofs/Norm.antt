@@ -1,10 +1,10 @@
 -- The norm of the quadratic extension of any commutative ring, and inverses by it.
-use Rattle.std.proofs.Common.{◌≡◌, ℕ, [], ◌∷◌, sym, ap, ◌∙◌}
+use Rattle.std.proofs.Common.{◌≡◌, ℕ, [], ◌∷◌, ◌++◌, sym, ap, ◌∙◌}
 use Rattle.algebra.specs.Ring.{Ops, Laws}
 use Rattle.algebra.specs.Units.{Inverts}
 use Rattle.algebra.specs.Expr.{Expr, var, 𝟏, 𝟎, ◌⊠◌, exprs, same, among}
 use Rattle.algebra.proofs.Solver.{solve, solve_by}
-use Rattle.extensions.specs.Tuples.{Tuple}
+use Rattle.extensions.specs.Tuples.{Tuple, entries}
 use Rattle.extensions.specs.Schoolbook.{binomial}
 use Rattle.extensions.specs.Extensions.{extend}
 use Rattle.quadratic.specs.Pairs.{norm}
@@ -19,7 +19,7 @@ module _ {A : Type 0} (o : Ops A) (L : Laws o) (w : A) where
   norm_mul a b =
       let x : Tuple 2 Expr = (var 0, (var 1, tt)) in
       let y : Tuple 2 Expr = (var 2, (var 3, tt)) in
-      solve o L (among o (a.0 ∷ a.1.0 ∷ b.0 ∷ b.1.0 ∷ w ∷ []))
+      solve o L (among o (entries 2 a ++ entries 2 b ++ w ∷ []))
       (norm exprs (var 4) (binomial 2 exprs (var 4) x y)) (norm exprs (var 4) x ⊠ norm exprs (var 4) y) tt
 
   pub norm_one : norm o w (o.one, (o.zero, tt)) ≡ o.one
@@ -31,7 +31,7 @@ module _ {A : Type 0} (o : Ops A) (L : Laws o) (w : A) where
   unfolding same
   inverse_is_by_norm a n e =
       let x : Tuple 2 Expr = (var 0, (var 1, tt)) in
-      let env : ℕ → A = among o (a.0 ∷ a.1.0 ∷ w ∷ n ∷ []) in
+      let env : ℕ → A = among o (entries 2 a ++ w ∷ n ∷ []) in
       let p : Tuple 2 Expr = binomial 2 exprs (var 2) x (conjugate_times exprs (var 3) x) in
       λ i. (solve_by o L env (norm exprs (var 2) x ⊠ var 3) 𝟏 𝟏 p.0 𝟏 e tt i, (solve o L env p.1.0 𝟎 tt i, tt))
 

@@ -1,10 +1,10 @@
 -- Towers: a ring whose elements are pairs over a ring below, multiplied as in the quadratic extension of that, has its inverses by the norm.
-use Rattle.std.proofs.Common.{◌≡◌, ℕ, [], ◌∷◌, sym, refl, ap, ◌∙◌}
+use Rattle.std.proofs.Common.{◌≡◌, ℕ, [], ◌∷◌, ◌++◌, sym, refl, ap, ◌∙◌}
 use Rattle.algebra.specs.Ring.{Ops, Laws}
 use Rattle.algebra.specs.Units.{Inverts}
 use Rattle.algebra.specs.Expr.{Expr, var, 𝟎, 𝟏, exprs, same, among}
 use Rattle.algebra.proofs.Laws as R
-use Rattle.extensions.specs.Tuples.{Tuple}
+use Rattle.extensions.specs.Tuples.{Tuple, entries}
 use Rattle.extensions.specs.Schoolbook.{binomial}
 use Rattle.extensions.specs.Extensions.{extend}
 use Rattle.extensions.proofs.Tuples.{vars, solves}
@@ -54,7 +54,7 @@ module _ {A : Type 0} (o : Ops A) (L : Laws o) (w : A) where
   pub split_mul : (a b : Tuple 4 A) → split (binomial 4 o w a b) ≡ binomial 2 quadratic root (split a) (split b)
   unfolding same
   split_mul a b =
-      let env : ℕ → A = among o (a.0 ∷ a.1.0 ∷ a.1.1.0 ∷ a.1.1.1.0 ∷ b.0 ∷ b.1.0 ∷ b.1.1.0 ∷ b.1.1.1.0 ∷ w ∷ []) in
+      let env : ℕ → A = among o (entries 4 a ++ entries 4 b ++ w ∷ []) in
       let p : Tuple 2 (Tuple 2 Expr) = split (binomial 4 exprs (var 8) (vars 4 0) (vars 4 4)) in
       let q : Tuple 2 (Tuple 2 Expr) = binomial 2 (extend 1 exprs (binomial 2 exprs (var 8))) (𝟎, (𝟏, tt)) (split (vars 4 0)) (split (vars 4 4)) in
       λ i. (solves o L env 2 p.0 q.0 tt i, (solves o L env 2 p.1.0 q.1.0 tt i, tt))

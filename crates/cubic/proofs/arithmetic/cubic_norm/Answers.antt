@@ -1,10 +1,10 @@
-use Rattle.std.proofs.Common.{[], ◌∷◌, ap, ◌∙◌, ap₂}
+use Rattle.std.proofs.Common.{◌≡◌, [], ◌∷◌, ◌++◌, ◌∙◌}
 use Rattle.algebra.specs.Ring.{Ops, sub}
 use Rattle.algebra.specs.Expr.{var, exprs, same, among}
 use Rattle.algebra.proofs.Solver.{solve}
-use Rattle.extensions.specs.Tuples.{Tuple}
+use Rattle.extensions.specs.Tuples.{Tuple, entries}
 use Rattle.extensions.proofs.Tuples.{vars}
-use Rattle.cubic.specs.Triples.{norm}
+use Rattle.cubic.specs.Triples.{triple, norm}
 use Rattle.cubic.proofs.arithmetic.cubic_norm.Goals as goal
 
 -- the code's formula
@@ -22,16 +22,9 @@ unfolding same
 returns g c =
     let m = g.S.System.mean in
     let o = g.S.System.sys.ops in
-    let a = c.args.a.now in
+    let a = triple m c.args.a.now in
     let w = m c.args.w.now in
-    let e-one = c.one-one.ensures in
-    let e-three = c.add-three.ensures ∙ ap₂ o.add e-one (c.add.ensures ∙ ap₂ o.add e-one e-one) in
-    let e-a2-w = c.mul-a2_w.ensures in
-    let t0 = c.mul.ensures ∙ ap (λ t. o.mul t (m a.c0)) c.square-a0_square.ensures in
-    let t1 = c.mul-3.ensures ∙ ap₂ o.mul c.mul-2.ensures c.square-a1_square.ensures in
-    let t2 = c.mul-4.ensures ∙ ap (λ t. o.mul t (m a.c2)) (c.square.ensures ∙ ap₂ o.mul e-a2-w e-a2-w) in
-    let t3 = c.mul-6.ensures ∙ ap₂ o.mul (c.mul-5.ensures ∙ ap₂ o.mul e-three e-a2-w) c.mul-a0_a1.ensures in
-    c.sub.ensures
-    ∙ ap₂ (sub o) (c.add-3.ensures ∙ ap₂ o.add (c.add-2.ensures ∙ ap₂ o.add t0 t1) t2) t3
-    ∙ solve o g.met.S.System.lawful.ring (among o (m a.c0 ∷ m a.c1 ∷ m a.c2 ∷ w ∷ []))
+    let computed : m c.sub.result ≡ scalar o w a = cc in
+    computed
+    ∙ solve o g.met.S.System.lawful.ring (among o (entries 3 a ++ w ∷ []))
     (scalar exprs (var 3) (vars 3 0)) (norm exprs (var 3) (vars 3 0)) tt

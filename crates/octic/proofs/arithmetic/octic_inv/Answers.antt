@@ -1,4 +1,4 @@
-use Rattle.std.proofs.Common.{sym, ap, ◌∙◌}
+use Rattle.std.proofs.Common.{◌≡◌, ap, ◌∙◌, subst}
 use Rattle.extensions.specs.Schoolbook.{binomial}
 use Rattle.quartic.specs.Quadruples.{quadruple}
 use Rattle.octic.specs.Octuples.{octuple, octic_norm_of}
@@ -24,26 +24,5 @@ returns g c =
     let n = quadruple s.mean c.in_ok-norm_inv.norm_inv in
     let evens = c.quartic_mul-out_evn.ensures in
     let odds = c.quartic_mul-out_odd.ensures in
-    ap (binomial 8 o w a) (λ i. (
-      (evens i).0,
-      (
-        (c.neg.ensures ∙ ap (λ t. o.neg t.0) odds) i,
-        (
-          (evens i).1.0,
-          (
-            (c.neg-2.ensures ∙ ap (λ t. o.neg t.1.0) odds) i,
-            (
-              (evens i).1.1.0,
-              (
-                (c.neg-3.ensures ∙ ap (λ t. o.neg t.1.1.0) odds) i,
-                (
-                  (evens i).1.1.1.0,
-                  ((c.neg-4.ensures ∙ ap (λ t. o.neg t.1.1.1.0) odds) i, tt),
-                ),
-              ),
-            ),
-          ),
-        ),
-      ),
-    ))
-    ∙ octic_inverse o g.met.S.System.lawful.ring w a n (ap (λ t. binomial 4 o w t n) (sym c.octic_norm.ensures) ∙ c.in_ok-norm_inv.ensures)
+    simp (c.neg.ensures, c.neg-2.ensures, c.neg-3.ensures, c.neg-4.ensures, ap (λ t. t.0) evens, ap (λ t. t.1.0) evens, ap (λ t. t.1.1.0) evens, ap (λ t. t.1.1.1.0) evens, ap (λ t. t.0) odds, ap (λ t. t.1.0) odds, ap (λ t. t.1.1.0) odds, ap (λ t. t.1.1.1.0) odds)
+    (octic_inverse o g.met.S.System.lawful.ring w a n (subst (λ t. binomial 4 o w t n ≡ (o.one, (o.zero, (o.zero, (o.zero, tt))))) c.octic_norm.ensures c.in_ok-norm_inv.ensures))

@@ -1,4 +1,4 @@
-use Rattle.std.proofs.Common.{sym, ap, ◌∙◌, ap₂}
+use Rattle.std.proofs.Common.{sym, ap}
 use Rattle.algebra.specs.Ring.{sub}
 use Rattle.extensions.specs.Tuples.{both}
 use Rattle.extensions.specs.Schoolbook.{binomial}
@@ -8,22 +8,13 @@ use Rattle.octic.proofs.arithmetic.octic_norm.Goals as goal
 
 pub returns : goal.returns
 returns g c =
-    let s = g.S.System in
+    let m = g.S.System.mean in
     let o = g.S.System.sys.ops in
-    let w = s.mean c.args.w.now in
-    let a = octuple s.mean c.args.a.now in
+    let w = m c.args.w.now in
+    let a = octuple m c.args.a.now in
     let evens = binomial 4 o w (split a).0 (split a).0 in
     let odds = binomial 4 o w (split a).1.0 (split a).1.0 in
     let e = c.quartic_square-evns_sq.ensures in
     let f = c.quartic_square-odds_sq.ensures in
-    (λ i. (
-      (c.sub.ensures ∙ ap₂ (λ x y. sub o x.0 y) e (c.mul-w_odds.ensures ∙ ap (λ t. o.mul w t.1.1.1.0) f)) i,
-      (
-        (c.sub-2.ensures ∙ ap₂ (λ x y. sub o x.1.0 y.0) e f) i,
-        (
-          (c.sub-3.ensures ∙ ap₂ (λ x y. sub o x.1.1.0 y.1.0) e f) i,
-          ((c.sub-4.ensures ∙ ap₂ (λ x y. sub o x.1.1.1.0 y.1.1.0) e f) i, tt),
-        ),
-      ),
-    ))
-    ∙ ap (both 4 (sub o) evens) (sym (root_mul o g.met.S.System.lawful.ring w odds))
+    simp (c.sub.ensures, c.sub-2.ensures, c.sub-3.ensures, c.sub-4.ensures, c.mul-w_odds.ensures, ap (λ t. t.0) e, ap (λ t. t.1.0) e, ap (λ t. t.1.1.0) e, ap (λ t. t.1.1.1.0) e, ap (λ t. t.0) f, ap (λ t. t.1.0) f, ap (λ t. t.1.1.0) f, ap (λ t. t.1.1.1.0) f)
+    (ap (both 4 (sub o) evens) (sym (root_mul o g.met.S.System.lawful.ring w odds)))

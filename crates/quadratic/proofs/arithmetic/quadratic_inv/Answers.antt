@@ -1,5 +1,4 @@
-use Rattle.std.proofs.Common.{sym, ap, ◌∙◌}
-use Rattle.extensions.specs.Schoolbook.{binomial}
+use Rattle.std.proofs.Common.{ap, ◌∙◌}
 use Rattle.quadratic.specs.Pairs.{pair, norm}
 use Rattle.quadratic.proofs.Norm.{inverse_is_by_norm, norm_inverse}
 use Rattle.quadratic.proofs.arithmetic.quadratic_inv.Goals as goal
@@ -21,5 +20,5 @@ returns g c =
     let w = s.mean c.args.w.now in
     let a = pair s.mean c.args.a.now in
     let n = s.mean c.in_ok-scalar.scalar in
-    ap (binomial 2 o w a) (λ i. (c.mul.ensures i, ((c.mul-2.ensures ∙ ap (λ t. o.mul t n) c.neg.ensures) i, tt)))
-    ∙ inverse_is_by_norm o g.met.S.System.lawful.ring w a n (ap (λ t. o.mul t n) (sym c.quadratic_norm.ensures) ∙ c.in_ok-scalar.ensures)
+    simp (c.mul.ensures, c.mul-2.ensures, c.neg.ensures)
+    (inverse_is_by_norm o g.met.S.System.lawful.ring w a n (rw⁻¹ c.quadratic_norm.ensures c.in_ok-scalar.ensures))

@@ -1,4 +1,4 @@
-use Rattle.std.proofs.Common.{◌≡◌, [], ◌∷◌, sym, ap, ◌∙◌, ap₂}
+use Rattle.std.proofs.Common.{◌≡◌, [], ◌∷◌, sym, ap, ◌∙◌}
 use Rattle.algebra.specs.Expr.{var, 𝟎, 𝟏, ⊟, ◌⊞◌, ◌⊠◌, exprs, same, among}
 use Rattle.extensions.specs.Schoolbook.{binomial}
 use Rattle.extensions.proofs.Tuples.{vars, solves}
@@ -11,8 +11,7 @@ returns g c =
     let o = g.S.System.sys.ops in
     let a0 = m c.args.a.now.value.c0 in
     let a1 = m c.args.a.now.value.c1 in
-    let squares : m c.add.result ≡ o.add (o.mul a0 a0) (o.mul a1 a1) = c.add.ensures ∙ ap₂ o.add
-    (c.square.ensures ∙ ap (λ x. o.mul (m x) (m x)) c.real.ensures) (c.square-2.ensures ∙ ap (λ x. o.mul (m x) (m x)) c.imag.ensures) in
+    let squares : m c.add.result ≡ o.add (o.mul a0 a0) (o.mul a1 a1) = cc in
     record {
       squares = squares;
       product =

@@ -1,4 +1,4 @@
-use Rattle.std.proofs.Common.{sym, ap, ◌∙◌}
+use Rattle.std.proofs.Common.{◌≡◌, ap, ◌∙◌, subst}
 use Rattle.extensions.specs.Schoolbook.{binomial}
 use Rattle.quadratic.specs.Pairs.{pair}
 use Rattle.quartic.specs.Quadruples.{quadruple, quartic_norm_of}
@@ -24,11 +24,5 @@ returns g c =
     let n = pair s.mean c.in_ok-inv.inv in
     let evens = c.quadratic_mul-out_evn.ensures in
     let odds = c.quadratic_mul-out_odd.ensures in
-    ap (binomial 4 o w a) (λ i. (
-      (evens i).0,
-      (
-        (c.neg.ensures ∙ ap (λ t. o.neg t.0) odds) i,
-        ((evens i).1.0, ((c.neg-2.ensures ∙ ap (λ t. o.neg t.1.0) odds) i, tt)),
-      ),
-    ))
-    ∙ quartic_inverse o g.met.S.System.lawful.ring w a n (ap (λ t. binomial 2 o w t n) (sym c.quartic_norm.ensures) ∙ c.in_ok-inv.ensures)
+    simp (c.neg.ensures, c.neg-2.ensures, ap (λ t. t.0) evens, ap (λ t. t.1.0) evens, ap (λ t. t.0) odds, ap (λ t. t.1.0) odds)
+    (quartic_inverse o g.met.S.System.lawful.ring w a n (subst (λ t. binomial 2 o w t n ≡ (o.one, (o.zero, tt))) c.quartic_norm.ensures c.in_ok-inv.ensures))

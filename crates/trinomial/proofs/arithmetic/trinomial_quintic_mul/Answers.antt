@@ -1,8 +1,10 @@
-use Rattle.std.proofs.Common.{[], ◌∷◌, ◌∙◌}
+use Rattle.std.proofs.Common.{[], ◌∷◌, ◌++◌}
 use Rattle.algebra.specs.Ring.{dot}
 use Rattle.algebra.specs.Expr.{var, ◌⊠◌, exprs, same, among}
+use Rattle.extensions.specs.Tuples.{entries}
 use Rattle.extensions.specs.Schoolbook.{trinomial}
 use Rattle.extensions.proofs.Tuples.{vars, solves}
+use Rattle.quintic.specs.Quintuples.{quintuple}
 use Rattle.trinomial.specs.Reduce.{reduced}
 use Rattle.trinomial.proofs.arithmetic.trinomial_quintic_mul.Goals as goal
 
@@ -11,20 +13,9 @@ unfolding same
 returns g c =
     let m = g.S.System.mean in
     let o = g.S.System.sys.ops in
-    let L = g.met.S.System.lawful.ring in
-    let a0 = m c.args.a.now.c0 in
-    let a1 = m c.args.a.now.c1 in
-    let a2 = m c.args.a.now.c2 in
-    let a3 = m c.args.a.now.c3 in
-    let a4 = m c.args.a.now.c4 in
-    let b0 = m c.args.b.now.c0 in
-    let b1 = m c.args.b.now.c1 in
-    let b2 = m c.args.b.now.c2 in
-    let b3 = m c.args.b.now.c3 in
-    let b4 = m c.args.b.now.c4 in
-    c.reduce.ensures
-    ∙ (λ i. reduced o (c.mul-c0.ensures i) (c.dot_product_2-c1.ensures i) (c.dot_product_3-c2.ensures i) (c.dot_product_4-c3.ensures i) (c.dot_product_5-c4.ensures i) (c.dot_product_4-c5.ensures i) (c.dot_product_3-c6.ensures i) (c.dot_product_2-c7.ensures i) (c.mul-c8.ensures i))
-    ∙ solves o L (among o (a0 ∷ a1 ∷ a2 ∷ a3 ∷ a4 ∷ b0 ∷ b1 ∷ b2 ∷ b3 ∷ b4 ∷ [])) 5 (reduced exprs
+    let env = among o (entries 5 (quintuple m c.args.a.now) ++ entries 5 (quintuple m c.args.b.now)) in
+    simp (c.reduce.ensures, c.mul-c0.ensures, c.dot_product_2-c1.ensures, c.dot_product_3-c2.ensures, c.dot_product_4-c3.ensures, c.dot_product_5-c4.ensures, c.dot_product_4-c5.ensures, c.dot_product_3-c6.ensures, c.dot_product_2-c7.ensures, c.mul-c8.ensures)
+    (solves o g.met.S.System.lawful.ring env 5 (reduced exprs
     (var 0 ⊠ var 5)
     (dot exprs (var 0 ∷ var 1 ∷ []) (var 6 ∷ var 5 ∷ []))
     (dot exprs (var 0 ∷ var 1 ∷ var 2 ∷ []) (var 7 ∷ var 6 ∷ var 5 ∷ []))
@@ -34,4 +25,4 @@ returns g c =
     (dot exprs (var 2 ∷ var 3 ∷ var 4 ∷ []) (var 9 ∷ var 8 ∷ var 7 ∷ []))
     (dot exprs (var 3 ∷ var 4 ∷ []) (var 9 ∷ var 8 ∷ []))
     (var 4 ⊠ var 9))
-    (trinomial exprs (vars 5 0) (vars 5 5)) tt
+    (trinomial exprs (vars 5 0) (vars 5 5)) tt)

@@ -1,19 +1,9 @@
-use Rattle.std.proofs.Common.{◌≡◌, ◌%◌, sym, refl, ap, ◌∙◌, add-one, arith}
+use Rattle.std.proofs.Common.{◌≡◌, ◌%◌, ap, ◌∙◌, arith}
 use Rattle.extensions.specs.Conjugates.{repeated, table_frobenius}
 use Rattle.extensions.proofs.Periods.{repeated_modulo}
 use Rattle.quintic.specs.Quintuples.{quintuple}
 use Rattle.trinomial.specs.Rows.{rows}
 use Rattle.trinomial.proofs.conjugates.trinomial_repeated_frobenius.Goals as goal
-
-pub loop-k-init : goal.loop-k-init
-loop-k-init g c = refl
-
-pub loop-k-preserved : goal.loop-k-preserved
-loop-k-preserved g c =
-    let s = g.S.System in
-    let φ = table_frobenius s.sys.ops (rows s.mean c.args.t.now) in
-    c.trinomial_frobenius-image.ensures.image ∙ ap φ c.loop-k.invariant
-    ∙ ap (λ n. repeated φ n (quintuple s.mean c.args.a.now)) (sym (add-one c.loop-k._k))
 
 pub returns : goal.returns
 returns g c law =

@@ -1,5 +1,4 @@
-use mathlib.Core.Path.{◌≡◌, ◌∙◌}
-use lib.Dec.{lit<}
+use Rattle.std.proofs.Common.{◌≡◌, ◌∙◌, lit<}
 use Rattle.bases.specs.declared.modulus.Mersenne31.{Mersenne31}
 use Rattle.bases.specs.declared.residue.Residue.{Residue}
 use Rattle.bases.proofs.Held.{residue_path}
