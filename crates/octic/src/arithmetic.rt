@@ -4,7 +4,7 @@ ghost use Rattle.algebra.specs.Units.{Inverts, NoInverse};
 ghost use Rattle.extensions.specs.Extensions.{binomial_extension};
 ghost use Rattle.extensions.specs.Schoolbook.{binomial};
 ghost use Rattle.quartic.specs.Quadruples.{quadruple};
-ghost use Rattle.octic.specs.Octuples.{octuple, octic_norm_of};
+ghost use Rattle.octic.specs.Octuples.{octuple, split, octic_norm_of};
 
 use crate::octuple::Octuple;
 use numbers::dot_products::{
@@ -148,10 +148,10 @@ pub fn octic_square<S: System>(a: &Octuple<S>, w: &S) -> Octuple<S>
     }
 }
 
-// The norm of a0 + a1 X + .. + a7 X⁷: evens² − X² odds², where evens = a0 + a2 X² + a4 X⁴ + a6 X⁶ and odds = a1 + a3 X² + a5 X⁴ + a7 X⁶, by its
-// coefficients of X⁰, X², X⁴ and X⁶. The coefficients of odds² go round by one place, and the last comes first, times w.
-pub fn octic_norm<S: System>(a: &Octuple<S>, w: &S) -> Quadruple<S>
-    ensures { quadruple S.mean result ≡ octic_norm_of S.sys.ops (S.mean w.now) (octuple S.mean a.now) }
+// The coefficients at even powers, and those at odd powers.
+fn halves<S: System>(a: &Octuple<S>) -> (Quadruple<S>, Quadruple<S>)
+    ensures evens { quadruple S.mean result.0 ≡ (split (octuple S.mean a.now)).0 }
+    ensures odds { quadruple S.mean result.1 ≡ (split (octuple S.mean a.now)).1.0 }
 {
     let evns = Quadruple {
         c0: a.c0,
@@ -165,6 +165,15 @@ pub fn octic_norm<S: System>(a: &Octuple<S>, w: &S) -> Quadruple<S>
         c2: a.c5,
         c3: a.c7,
     };
+    (evns, odds)
+}
+
+// The norm of a0 + a1 X + .. + a7 X⁷: evens² − X² odds², where evens = a0 + a2 X² + a4 X⁴ + a6 X⁶ and odds = a1 + a3 X² + a5 X⁴ + a7 X⁶, by its
+// coefficients of X⁰, X², X⁴ and X⁶. The coefficients of odds² go round by one place, and the last comes first, times w.
+pub fn octic_norm<S: System>(a: &Octuple<S>, w: &S) -> Quadruple<S>
+    ensures { quadruple S.mean result ≡ octic_norm_of S.sys.ops (S.mean w.now) (octuple S.mean a.now) }
+{
+    let (evns, odds) = halves(a);
     let evns_sq = quartic_square(&evns, w);
     let odds_sq = quartic_square(&odds, w);
     let w_odds = w.mul(&odds_sq.c3);
@@ -181,18 +190,7 @@ pub fn octic_inv<S: System>(a: &Octuple<S>, w: &S) -> Option<Octuple<S>>
     ensures { elim result [ Some b ↦ Inverts (binomial_extension 7 S.sys (S.mean w.now)).ops (octuple S.mean a.now) (octuple S.mean b) | None ↦ NoInverse (binomial_extension 7 S.sys (S.mean w.now)).ops (octuple S.mean a.now) ] }
 {
     let norm_inv = quartic_inv(&octic_norm(a, w), w)?;
-    let evns = Quadruple {
-        c0: a.c0,
-        c1: a.c2,
-        c2: a.c4,
-        c3: a.c6,
-    };
-    let odds = Quadruple {
-        c0: a.c1,
-        c1: a.c3,
-        c2: a.c5,
-        c3: a.c7,
-    };
+    let (evns, odds) = halves(a);
     let out_evn = quartic_mul(&evns, &norm_inv, w);
     let out_odd = quartic_mul(&odds, &norm_inv, w);
     Some(Octuple {

@@ -22,7 +22,7 @@ returns g c =
     let w = s.mean c.args.w.now in
     let a = octuple s.mean c.args.a.now in
     let n = quadruple s.mean c.in_ok-norm_inv.norm_inv in
-    let evens = c.quartic_mul-out_evn.ensures in
-    let odds = c.quartic_mul-out_odd.ensures in
+    let evens = c.quartic_mul-out_evn.ensures ∙ ap (λ t. binomial 4 o w t n) c.halves-evns.ensures.evens in
+    let odds = c.quartic_mul-out_odd.ensures ∙ ap (λ t. binomial 4 o w t n) c.halves-evns.ensures.odds in
     simp (c.neg.ensures, c.neg-2.ensures, c.neg-3.ensures, c.neg-4.ensures, ap (λ t. t.0) evens, ap (λ t. t.1.0) evens, ap (λ t. t.1.1.0) evens, ap (λ t. t.1.1.1.0) evens, ap (λ t. t.0) odds, ap (λ t. t.1.0) odds, ap (λ t. t.1.1.0) odds, ap (λ t. t.1.1.1.0) odds)
     (octic_inverse o g.met.S.System.lawful.ring w a n (subst (λ t. binomial 4 o w t n ≡ (o.one, (o.zero, (o.zero, (o.zero, tt))))) c.octic_norm.ensures c.in_ok-norm_inv.ensures))
