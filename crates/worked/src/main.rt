@@ -3,6 +3,7 @@
 
 use calculator::respond::show_list;
 use figures::answers::Worked;
+use figures::readings::not_told_apart;
 use figures::table::worked;
 use numbers::listed::PrefixListed;
 use numbers::refusal::Refusal;
@@ -85,7 +86,13 @@ fn run(rt: &HostRuntime) -> anyhow::Result<()> {
         rt,
         "append 3, append 0, append 0, append 0, append 0, append 0",
         &three8,
-    )
+    )?;
+    match not_told_apart() {
+        Ok(true) => println!(rt; "the last two sheets: alike")?,
+        Ok(false) => println!(rt; "the last two sheets: not alike")?,
+        Err(refusal) => println!(rt; "the last two sheets: {refusal}")?,
+    }
+    Ok(())
 }
 
 fn main(rt: HostRuntime) -> anyhow::Result<()> {
