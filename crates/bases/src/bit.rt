@@ -15,18 +15,20 @@ pub struct Bit {
 }
 
 impl Bit {
-    // One where `on` holds, else zero.
-    pub fn new(on: bool) -> Bit
-        ensures { result.on ≡ on }
-    {
-        Bit { on }
-    }
-
     // Whether the element is one.
     pub fn is_one(&self) -> bool
         ensures { result ≡ self.now.on }
     {
         self.same(&Self::one())
+    }
+}
+
+// One where `on` holds, else zero.
+impl From<bool> for Bit {
+    ghost from_gives = { λ on b. b.on ≡ on };
+
+    fn from(on: bool) -> Bit {
+        Bit { on }
     }
 }
 

@@ -19,7 +19,7 @@ pub struct Residue<M> {
     ghost small: { value < 2 ^ 31 },
 }
 
-// By hand, since `Clone` cannot be derived beside a ghost field.
+// By hand, since `Clone` cannot be derived for a type that has a parameter and a ghost field.
 impl<M> Clone for Residue<M> {
     ghost is_clone = { λ x y. y ≡ x };
 
@@ -40,13 +40,6 @@ impl<M: Modulus> Residue<M> {
         (value < 0x8000_0000).then(|| Self::held(value))
     }
 
-    // The residue of any number, which holds its remainder.
-    pub fn of(n: u32) -> Residue<M>
-        ensures { result.value ≡ n % M.MODULUS }
-    {
-        Self::held(n % M::MODULUS)
-    }
-
     // The residue that holds this value.
     fn held(value: u32) -> Residue<M>
         requires { value < 2 ^ 31 }
@@ -56,6 +49,15 @@ impl<M: Modulus> Residue<M> {
             value,
             modulus: PhantomData,
         }
+    }
+}
+
+// The residue of any number, which holds its remainder.
+impl<M: Modulus> From<u32> for Residue<M> {
+    ghost from_gives = { λ n r. r.value ≡ n % M.MODULUS };
+
+    fn from(n: u32) -> Residue<M> {
+        Self::held(n % M::MODULUS)
     }
 }
 
@@ -118,11 +120,9 @@ impl<M: Modulus> System for Residue<M> {
 
     fn entry(n: u64) -> Result<Residue<M>, Refusal> {
         let limit = u64::from(M::MODULUS);
-        if n < limit {
-            Ok(Self::held(n as u32))
-        } else {
-            Err(Refusal::OverLimit)
-        }
+        (n < limit)
+            .then(|| Self::held(n as u32))
+            .ok_or(Refusal::OverLimit)
     }
 
     fn inverse(&self) -> Option<Residue<M>> {

@@ -20,7 +20,7 @@ impl<M: Modulus, const N: u32> BinomialConstants<Residue<M>> for Whole<N> {
     ghost w = { record { value = N % M.MODULUS; modulus = record {}; small = remainder_small N M.MODULUS M.bounds } };
 
     fn w() -> Residue<M> {
-        Residue::of(N)
+        Residue::from(N)
     }
 }
 
@@ -43,8 +43,8 @@ impl BinomialConstants<Complex> for FiveI {
 
     fn w() -> Complex {
         Element::new(Pair {
-            c0: Residue::of(0),
-            c1: Residue::of(5),
+            c0: Residue::from(0),
+            c1: Residue::from(5),
         })
     }
 }

@@ -16,7 +16,7 @@ impl RootConstants<Quadruple<Residue<KoalaBear>>, Residue<KoalaBear>> for Whole<
     ghost z = { record { value = 2113994754; modulus = record {}; small = lit< tt } };
 
     fn z() -> Residue<KoalaBear> {
-        Residue::of(2_113_994_754)
+        Residue::from(2_113_994_754)
     }
 }
 
@@ -24,7 +24,7 @@ impl RootConstants<Octuple<Residue<KoalaBear>>, Residue<KoalaBear>> for Whole<3>
     ghost z = { record { value = 1748172362; modulus = record {}; small = lit< tt } };
 
     fn z() -> Residue<KoalaBear> {
-        Residue::of(1_748_172_362)
+        Residue::from(1_748_172_362)
     }
 }
 
@@ -32,7 +32,7 @@ impl RootConstants<Pair<Residue<Mersenne31>>, Residue<Mersenne31>> for MinusOne 
     ghost z = { record { value = 2147483646; modulus = record {}; small = lit< tt } };
 
     fn z() -> Residue<Mersenne31> {
-        Residue::of(2_147_483_646)
+        Residue::from(2_147_483_646)
     }
 }
 
@@ -41,8 +41,8 @@ impl RootConstants<Triple<Complex>, Complex> for FiveI {
 
     fn z() -> Complex {
         Element::new(Pair {
-            c0: Residue::of(634_005_911),
-            c1: Residue::of(0),
+            c0: Residue::from(634_005_911),
+            c1: Residue::from(0),
         })
     }
 }
@@ -51,7 +51,7 @@ impl RootConstants<Quintuple<Residue<BabyBear>>, Residue<BabyBear>> for Whole<31
     ghost z = { record { value = 645581151; modulus = record {}; small = lit< tt } };
 
     fn z() -> Residue<BabyBear> {
-        Residue::of(645_581_151)
+        Residue::from(645_581_151)
     }
 }
 
@@ -59,6 +59,6 @@ impl RootConstants<Quintuple<Residue<Eleven>>, Residue<Eleven>> for Whole<2> {
     ghost z = { record { value = 4; modulus = record {}; small = lit< tt } };
 
     fn z() -> Residue<Eleven> {
-        Residue::of(4)
+        Residue::from(4)
     }
 }

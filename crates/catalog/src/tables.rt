@@ -1,6 +1,6 @@
 // The rows of Frobenius of the two trinomial extensions: row k is X^(kq) reduced, q being the number of elements below.
 ghost use Rattle.std.proofs.Common.{lit<};
-ghost use Rattle.std.specs.Prelude.{get_or, true, false, ◌≡◌, ◌%◌};
+ghost use Rattle.std.specs.Prelude.{true, false, slice_index_or};
 
 use bases::bit::Bit;
 use bases::modulus::KoalaBear;
@@ -41,20 +41,29 @@ const KOALA_BEAR_ROWS: [[u32; 5]; 4] = [
     ],
 ];
 
-// A row of residues.
-fn koala_bear_row(numbers: &[u32; 5]) -> Quintuple<Residue<KoalaBear>>
-    ensures c0 { result.c0.value ≡ get_or numbers.now 0 0 % 2130706433 }
-    ensures c1 { result.c1.value ≡ get_or numbers.now 1 0 % 2130706433 }
-    ensures c2 { result.c2.value ≡ get_or numbers.now 2 0 % 2130706433 }
-    ensures c3 { result.c3.value ≡ get_or numbers.now 3 0 % 2130706433 }
-    ensures c4 { result.c4.value ≡ get_or numbers.now 4 0 % 2130706433 }
+// The rows over the two elements.
+const BIT_ROWS: [[bool; 5]; 4] = [
+    [false, false, true, false, false],
+    [false, false, false, false, true],
+    [false, true, false, true, false],
+    [true, false, true, true, false],
+];
+
+// The row of the elements that these stand for.
+fn row<N: Copy, S: From<N>>(given: &[N; 5]) -> Quintuple<S>
+    ensures c0 { (d : N) → S.from_gives (slice_index_or given.now 0 d) result.c0 }
+    ensures c1 { (d : N) → S.from_gives (slice_index_or given.now 1 d) result.c1 }
+    ensures c2 { (d : N) → S.from_gives (slice_index_or given.now 2 d) result.c2 }
+    ensures c3 { (d : N) → S.from_gives (slice_index_or given.now 3 d) result.c3 }
+    ensures c4 { (d : N) → S.from_gives (slice_index_or given.now 4 d) result.c4 }
 {
+    let [c0, c1, c2, c3, c4] = *given;
     Quintuple {
-        c0: Residue::of(numbers[0]),
-        c1: Residue::of(numbers[1]),
-        c2: Residue::of(numbers[2]),
-        c3: Residue::of(numbers[3]),
-        c4: Residue::of(numbers[4]),
+        c0: S::from(c0),
+        c1: S::from(c1),
+        c2: S::from(c2),
+        c3: S::from(c3),
+        c4: S::from(c4),
     }
 }
 
@@ -66,25 +75,13 @@ impl TrinomialConstants<Residue<KoalaBear>> for KoalaBearTable {
     ghost table = { record { t1 = record { c0 = record { value = 1576402667; modulus = record {}; small = lit< tt }; c1 = record { value = 1173144480; modulus = record {}; small = lit< tt }; c2 = record { value = 1567662457; modulus = record {}; small = lit< tt }; c3 = record { value = 1206866823; modulus = record {}; small = lit< tt }; c4 = record { value = 2428146; modulus = record {}; small = lit< tt } }; t2 = record { c0 = record { value = 1680345488; modulus = record {}; small = lit< tt }; c1 = record { value = 1381986; modulus = record {}; small = lit< tt }; c2 = record { value = 615237464; modulus = record {}; small = lit< tt }; c3 = record { value = 1380104858; modulus = record {}; small = lit< tt }; c4 = record { value = 295431824; modulus = record {}; small = lit< tt } }; t3 = record { c0 = record { value = 441230756; modulus = record {}; small = lit< tt }; c1 = record { value = 323126830; modulus = record {}; small = lit< tt }; c2 = record { value = 704986542; modulus = record {}; small = lit< tt }; c3 = record { value = 1445620072; modulus = record {}; small = lit< tt }; c4 = record { value = 503505220; modulus = record {}; small = lit< tt } }; t4 = record { c0 = record { value = 1364444097; modulus = record {}; small = lit< tt }; c1 = record { value = 1144738982; modulus = record {}; small = lit< tt }; c2 = record { value = 2008416047; modulus = record {}; small = lit< tt }; c3 = record { value = 143367062; modulus = record {}; small = lit< tt }; c4 = record { value = 1027410849; modulus = record {}; small = lit< tt } } } };
 
     fn table() -> Rows<Residue<KoalaBear>> {
+        let [t1, t2, t3, t4] = &KOALA_BEAR_ROWS;
         Rows {
-            t1: koala_bear_row(&KOALA_BEAR_ROWS[0]),
-            t2: koala_bear_row(&KOALA_BEAR_ROWS[1]),
-            t3: koala_bear_row(&KOALA_BEAR_ROWS[2]),
-            t4: koala_bear_row(&KOALA_BEAR_ROWS[3]),
+            t1: row(t1),
+            t2: row(t2),
+            t3: row(t3),
+            t4: row(t4),
         }
-    }
-}
-
-// A row of bits. It is not one function with the row of residues: a residue is made of a number, a bit of a truth value.
-fn bit_row(c0: bool, c1: bool, c2: bool, c3: bool, c4: bool) -> Quintuple<Bit>
-    ensures { result ≡ record { c0 = record { on = c0 }; c1 = record { on = c1 }; c2 = record { on = c2 }; c3 = record { on = c3 }; c4 = record { on = c4 } } }
-{
-    Quintuple {
-        c0: Bit::new(c0),
-        c1: Bit::new(c1),
-        c2: Bit::new(c2),
-        c3: Bit::new(c3),
-        c4: Bit::new(c4),
     }
 }
 
@@ -96,11 +93,12 @@ impl TrinomialConstants<Bit> for BitTable {
     ghost table = { record { t1 = record { c0 = record { on = false }; c1 = record { on = false }; c2 = record { on = true }; c3 = record { on = false }; c4 = record { on = false } }; t2 = record { c0 = record { on = false }; c1 = record { on = false }; c2 = record { on = false }; c3 = record { on = false }; c4 = record { on = true } }; t3 = record { c0 = record { on = false }; c1 = record { on = true }; c2 = record { on = false }; c3 = record { on = true }; c4 = record { on = false } }; t4 = record { c0 = record { on = true }; c1 = record { on = false }; c2 = record { on = true }; c3 = record { on = true }; c4 = record { on = false } } } };
 
     fn table() -> Rows<Bit> {
+        let [t1, t2, t3, t4] = &BIT_ROWS;
         Rows {
-            t1: bit_row(false, false, true, false, false),
-            t2: bit_row(false, false, false, false, true),
-            t3: bit_row(false, true, false, true, false),
-            t4: bit_row(true, false, true, true, false),
+            t1: row(t1),
+            t2: row(t2),
+            t3: row(t3),
+            t4: row(t4),
         }
     }
 }

@@ -18,10 +18,10 @@ use sheets::runs::read;
 pub fn root() -> System8
     ensures { mean_of result ≡ X }
 {
-    let zero = Residue::of(0);
+    let zero = Residue::from(0);
     Element::new(Quintuple {
         c0: zero,
-        c1: Residue::of(1),
+        c1: Residue::from(1),
         c2: zero,
         c3: zero,
         c4: zero,

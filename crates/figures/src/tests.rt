@@ -33,5 +33,5 @@ fn fills<S: System>(rt: &impl Abort, x: S) -> Result<(), Fail> {
 #[test]
 fn full_sheet(rt: HostRuntime) -> Result<(), Fail> {
     fills(&rt, root())?;
-    fills(&rt, Bit::new(true))
+    fills(&rt, Bit::from(true))
 }

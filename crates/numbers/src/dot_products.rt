@@ -9,6 +9,7 @@ ghost use Rattle.algebra.specs.Ring.{dot};
 use crate::system::System;
 
 // The sum of two products, a0 × b0 + a1 × b1.
+#[tactic(auto, using(crate::proofs::Sums::none_more))]
 pub fn dot_product_2<S: System>(a0: &S, b0: &S, a1: &S, b1: &S) -> S
     ensures { S.mean result ≡ dot S.sys.ops (S.mean a0.now ∷ S.mean a1.now ∷ []) (S.mean b0.now ∷ S.mean b1.now ∷ []) }
 {
@@ -17,6 +18,7 @@ pub fn dot_product_2<S: System>(a0: &S, b0: &S, a1: &S, b1: &S) -> S
 }
 
 // The sum of three products, a0 × b0 + a1 × b1 + a2 × b2.
+#[tactic(auto, using(crate::proofs::Sums::none_more))]
 pub fn dot_product_3<S: System>(a0: &S, b0: &S, a1: &S, b1: &S, a2: &S, b2: &S) -> S
     ensures { S.mean result ≡ dot S.sys.ops (S.mean a0.now ∷ S.mean a1.now ∷ S.mean a2.now ∷ []) (S.mean b0.now ∷ S.mean b1.now ∷ S.mean b2.now ∷ []) }
 {

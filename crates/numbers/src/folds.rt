@@ -10,22 +10,14 @@ use crate::system::System;
 pub fn sum<S: System>(elements: &[S]) -> S
     ensures { S.mean result ≡ total S.sys.ops (map S.mean elements.now) }
 {
-    let mut all = S::zero();
-    for x in elements {
-        all = all.add(x);
-    }
-    all
+    elements.iter().fold(S::zero(), |all, x| all.add(x))
 }
 
 // The product of all elements of a list; with none it is one.
 pub fn product<S: System>(elements: &[S]) -> S
     ensures { S.mean result ≡ product S.sys.ops (map S.mean elements.now) }
 {
-    let mut all = S::one();
-    for x in elements {
-        all = all.mul(x);
-    }
-    all
+    elements.iter().fold(S::one(), |all, x| all.mul(x))
 }
 
 // The product of a with the inverse of b; refused exactly where b has none.

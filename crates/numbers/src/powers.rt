@@ -8,7 +8,7 @@ use crate::system::System;
 pub fn square<S: System>(a: &S) -> S
     ensures { S.mean result ≡ S.sys.ops.mul (S.mean a.now) (S.mean a.now) }
 {
-    a.mul(a)
+    a.square()
 }
 
 // The number of binary digits of n, which is 0 for 0.

@@ -15,52 +15,75 @@ pub trait ComplexConstants<S: System>: BinomialConstants<S> {
     ghost negative: { S.mean Self.BinomialConstants.w ≡ S.sys.ops.neg S.sys.ops.one };
 }
 
-// real + imag X
-pub fn new_complex<S: System, C: ComplexConstants<S>>(real: S, imag: S) -> Quadratic<S, C>
-    ensures { (result.value.c0 ≡ real) × (result.value.c1 ≡ imag) }
-{
-    Element::new(Pair { c0: real, c1: imag })
+// Complex numbers, elements real + imag X with X² = w = −1. They are a trait, since the type is another crate's.
+pub trait ComplexElement<S: System>: Copy {
+    ghost use Rattle.quadratic.specs.declared.pair.Pair.{Pair};
+
+    // real and imag
+    ghost parts: { Self → Pair S };
+
+    ghost w: { S };
+
+    // real + imag X
+    fn new_complex(real: S, imag: S) -> Self
+        ensures { ((parts result).c0 ≡ real) × ((parts result).c1 ≡ imag) };
+
+    // The real part.
+    fn real(&self) -> S
+        ensures { result ≡ (parts self.now).c0 };
+
+    // The imaginary part.
+    fn imag(&self) -> S
+        ensures { result ≡ (parts self.now).c1 };
+
+    ghost negative: { S.mean w ≡ S.sys.ops.neg S.sys.ops.one };
+
+    // The real number: its imaginary part is zero.
+    final fn new_real(real: S) -> Self
+        ensures { pair S.mean (parts result) ≡ embed 1 S.sys.ops (S.mean real) }
+    {
+        Self::new_complex(real, S::zero())
+    }
+
+    // The imaginary number: its real part is zero.
+    final fn new_imag(imag: S) -> Self
+        ensures { pair S.mean (parts result) ≡ (S.sys.ops.zero, (S.mean imag, tt)) }
+    {
+        Self::new_complex(S::zero(), imag)
+    }
+
+    // The complex conjugate: the imaginary part negated.
+    final fn conjugate(&self) -> Self
+        ensures { pair S.mean (parts result) ≡ (S.mean (parts self.now).c0, (S.sys.ops.neg (S.mean (parts self.now).c1), tt)) }
+    {
+        Self::new_complex(self.real(), self.imag().neg())
+    }
+
+    // The sum of the squares of both parts, which is the product with the conjugate.
+    final fn norm(&self) -> S
+        ensures squares { S.mean result ≡ S.sys.ops.add (S.sys.ops.mul (S.mean (parts self.now).c0) (S.mean (parts self.now).c0)) (S.sys.ops.mul (S.mean (parts self.now).c1) (S.mean (parts self.now).c1)) }
+        ensures product { binomial 2 S.sys.ops (S.mean w) (pair S.mean (parts self.now)) (S.mean (parts self.now).c0, (S.sys.ops.neg (S.mean (parts self.now).c1), tt)) ≡ embed 1 S.sys.ops (S.mean result) }
+    {
+        self.real().square().add(&self.imag().square())
+    }
 }
 
-// The real number: its imaginary part is zero.
-pub fn new_real<S: System, C: ComplexConstants<S>>(real: S) -> Quadratic<S, C>
-    ensures { pair S.mean result.value ≡ embed 1 S.sys.ops (S.mean real) }
-{
-    new_complex(real, S::zero())
-}
+impl<S: System, C: ComplexConstants<S>> ComplexElement<S> for Quadratic<S, C> {
+    ghost parts = { λ a. a.value };
 
-// The imaginary number: its real part is zero.
-pub fn new_imag<S: System, C: ComplexConstants<S>>(imag: S) -> Quadratic<S, C>
-    ensures { pair S.mean result.value ≡ (S.sys.ops.zero, (S.mean imag, tt)) }
-{
-    new_complex(S::zero(), imag)
-}
+    ghost w = { C.BinomialConstants.w };
 
-// The real part.
-pub fn real<S: System, C: ComplexConstants<S>>(a: &Quadratic<S, C>) -> S
-    ensures { result ≡ a.now.value.c0 }
-{
-    a.value.c0
-}
+    ghost negative = { C.negative };
 
-// The imaginary part.
-pub fn imag<S: System, C: ComplexConstants<S>>(a: &Quadratic<S, C>) -> S
-    ensures { result ≡ a.now.value.c1 }
-{
-    a.value.c1
-}
+    fn new_complex(real: S, imag: S) -> Quadratic<S, C> {
+        Element::new(Pair { c0: real, c1: imag })
+    }
 
-// The complex conjugate: the imaginary part negated.
-pub fn conjugate<S: System, C: ComplexConstants<S>>(a: &Quadratic<S, C>) -> Quadratic<S, C>
-    ensures { pair S.mean result.value ≡ (S.mean a.now.value.c0, (S.sys.ops.neg (S.mean a.now.value.c1), tt)) }
-{
-    new_complex(real(a), imag(a).neg())
-}
+    fn real(&self) -> S {
+        self.value.c0
+    }
 
-// The sum of the squares of both parts, which is the product with the conjugate.
-pub fn norm<S: System, C: ComplexConstants<S>>(a: &Quadratic<S, C>) -> S
-    ensures squares { S.mean result ≡ S.sys.ops.add (S.sys.ops.mul (S.mean a.now.value.c0) (S.mean a.now.value.c0)) (S.sys.ops.mul (S.mean a.now.value.c1) (S.mean a.now.value.c1)) }
-    ensures product { binomial 2 S.sys.ops (S.mean C.w) (pair S.mean a.now.value) (S.mean a.now.value.c0, (S.sys.ops.neg (S.mean a.now.value.c1), tt)) ≡ embed 1 S.sys.ops (S.mean result) }
-{
-    real(a).square().add(&imag(a).square())
+    fn imag(&self) -> S {
+        self.value.c1
+    }
 }

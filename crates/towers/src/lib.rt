@@ -35,7 +35,7 @@ impl BinomialConstants<Residue<Twelve>> for Five {
     ghost w = { record { value = 5; modulus = record {}; small = lit< tt } };
 
     fn w() -> Residue<Twelve> {
-        Residue::of(5)
+        Residue::from(5)
     }
 }
 
@@ -48,9 +48,9 @@ impl BinomialConstants<Cubic<Residue<Twelve>, Five>> for CubicRoot {
 
     fn w() -> Cubic<Residue<Twelve>, Five> {
         Element::new(Triple {
-            c0: Residue::of(0),
-            c1: Residue::of(1),
-            c2: Residue::of(0),
+            c0: Residue::from(0),
+            c1: Residue::from(1),
+            c2: Residue::from(0),
         })
     }
 }

@@ -9,11 +9,7 @@ use std::test::Fail;
 fn inverts(rt: &impl Abort, list: &[u64], inverse: &[u64]) -> Result<(), Fail> {
     let a = Tower::from_list(list)?;
     let b = Tower::from_list(inverse)?;
-    let found = match a.inverse() {
-        Some(found) => found.same(&b),
-        None => false,
-    };
-    assert!(rt; found);
+    assert!(rt; a.inverse().is_some_and(|found| found.same(&b)));
     assert!(rt; a.mul(&b).same(&Tower::one()));
     Ok(())
 }

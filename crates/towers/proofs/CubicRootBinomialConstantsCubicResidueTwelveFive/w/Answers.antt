@@ -9,5 +9,5 @@ returns c =
     let none : Residue Twelve = record { value = 0; modulus = record {}; small = lit< tt } in
     let unit : Residue Twelve = record { value = 1; modulus = record {}; small = lit< tt } in
     let same : c.new.result.value ≡ record { c0 = none; c1 = unit; c2 = none } =
-    c.new.ensures ∙ (λ i. record { c0 = residue_path c.of.result none c.of.ensures i; c1 = residue_path c.of-2.result unit c.of-2.ensures i; c2 = residue_path c.of-3.result none c.of-3.ensures i }) in
+    c.new.ensures ∙ (λ i. record { c0 = residue_path c.from.result none c.from.ensures i; c1 = residue_path c.from-2.result unit c.from-2.ensures i; c2 = residue_path c.from-3.result none c.from-3.ensures i }) in
     λ i. record { value = same i; below = record {}; rule = record {} }

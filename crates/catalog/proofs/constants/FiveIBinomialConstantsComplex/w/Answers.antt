@@ -9,5 +9,5 @@ returns c =
     let low : Residue Mersenne31 = record { value = 0; modulus = record {}; small = lit< tt } in
     let high : Residue Mersenne31 = record { value = 5; modulus = record {}; small = lit< tt } in
     let same : c.new.result.value ≡ record { c0 = low; c1 = high } =
-    c.new.ensures ∙ (λ i. record { c0 = residue_path c.of.result low c.of.ensures i; c1 = residue_path c.of-2.result high c.of-2.ensures i }) in
+    c.new.ensures ∙ (λ i. record { c0 = residue_path c.from.result low c.from.ensures i; c1 = residue_path c.from-2.result high c.from-2.ensures i }) in
     λ i. record { value = same i; below = record {}; rule = record {} }

@@ -16,13 +16,15 @@ same_rows x y e1 e2 e3 e4 = λ i. record { t1 = e1 i; t2 = e2 i; t3 = e3 i; t4 =
 
 pub returns : goal.returns
 returns c =
-    let e1 = c.koala_bear_row.ensures in
-    let e2 = c.koala_bear_row-2.ensures in
-    let e3 = c.koala_bear_row-3.ensures in
-    let e4 = c.koala_bear_row-4.ensures in
+    let e1 = c.row.ensures in
+    let e2 = c.row-2.ensures in
+    let e3 = c.row-3.ensures in
+    let e4 = c.row-4.ensures in
     record {
       value = same_rows _ _
-          (same_row _ _ e1.c0 e1.c1 e1.c2 e1.c3 e1.c4) (same_row _ _ e2.c0 e2.c1 e2.c2 e2.c3 e2.c4)
-          (same_row _ _ e3.c0 e3.c1 e3.c2 e3.c3 e3.c4) (same_row _ _ e4.c0 e4.c1 e4.c2 e4.c3 e4.c4);
-      table = simp (e1.c0, e1.c1, e1.c2, e1.c3, e1.c4, e2.c0, e2.c1, e2.c2, e2.c3, e2.c4, e3.c0, e3.c1, e3.c2, e3.c3, e3.c4, e4.c0, e4.c1, e4.c2, e4.c3, e4.c4) koala_bear_table;
+          (same_row _ _ (e1.c0 0) (e1.c1 0) (e1.c2 0) (e1.c3 0) (e1.c4 0))
+          (same_row _ _ (e2.c0 0) (e2.c1 0) (e2.c2 0) (e2.c3 0) (e2.c4 0))
+          (same_row _ _ (e3.c0 0) (e3.c1 0) (e3.c2 0) (e3.c3 0) (e3.c4 0))
+          (same_row _ _ (e4.c0 0) (e4.c1 0) (e4.c2 0) (e4.c3 0) (e4.c4 0));
+      table = simp (e1.c0 0, e1.c1 0, e1.c2 0, e1.c3 0, e1.c4 0, e2.c0 0, e2.c1 0, e2.c2 0, e2.c3 0, e2.c4 0, e3.c0 0, e3.c1 0, e3.c2 0, e3.c3 0, e3.c4 0, e4.c0 0, e4.c1 0, e4.c2 0, e4.c3 0, e4.c4 0) koala_bear_table;
     }
