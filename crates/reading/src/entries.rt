@@ -1,6 +1,7 @@
 // The entries of a sheet, in fixed memory.
-ghost use Rattle.std.specs.Prelude.{◌≡◌, ◌+◌, ◌<◌, ◌≤◌, [], ◌∷◌, ◌++◌, length, Ok, Err, slice_index, slice_set};
+ghost use Rattle.std.specs.Prelude.{◌≡◌, ℕ, ◌+◌, ◌<◌, ◌≤◌, List, [], ◌∷◌, ◌++◌, length, Ok, Err, slice_index, slice_set};
 ghost use Rattle.reading.specs.Sheet.{most};
+ghost use Rattle.reading.specs.Windows.{window};
 
 use numbers::refusal::Refusal;
 use std::marker::Model;
@@ -19,10 +20,6 @@ pub struct Entries {
 
 // Clauses see the list of the entries, first to last.
 impl Model for Entries {
-    ghost use Rattle.std.specs.Prelude.{ℕ, ◌<◌, ◌≤◌, List};
-    ghost use Rattle.reading.specs.Sheet.{most};
-    ghost use Rattle.reading.specs.Windows.{window};
-
     ghost Value = { List ℕ };
 
     ghost view = { λ r. window r.slots r.start r.len };
@@ -32,6 +29,7 @@ impl Model for Entries {
 
 impl Entries {
     // No entries.
+    #[tactic(auto, unfolding(crate::specs::Windows::window))]
     pub fn empty() -> Self
         ensures { result ≡ [] }
     {
@@ -42,6 +40,7 @@ impl Entries {
         }
     }
 
+    #[tactic(auto, using(crate::proofs::Windows::window_length))]
     pub fn len(&self) -> usize
         ensures { result ≡ length self.now }
     {
@@ -49,6 +48,7 @@ impl Entries {
     }
 
     // Puts an entry at the end, and answers the new count. Where there is no room it is refused, and nothing changes.
+    #[tactic(auto, using(crate::proofs::Windows::window_length, crate::proofs::Windows::window_append))]
     pub fn push_back(&mut self, e: u64) -> Result<usize, Refusal>
         ensures { elim result [ Ok n ↦ (length self.old < most) × (self.new ≡ self.old ++ (e ∷ [])) × (n ≡ length self.old + 1) | Err q ↦ (q ≡ Refusal.FullSheet) × (most ≤ length self.old) × (self.new ≡ self.old) ] }
     {
@@ -61,6 +61,7 @@ impl Entries {
     }
 
     // Takes the first entry away, and answers it. Where there is none this is refused, and nothing changes.
+    #[tactic(auto, using(crate::proofs::Windows::window_drop), unfolding(crate::specs::Windows::window))]
     pub fn pop_front(&mut self) -> Result<u64, Refusal>
         ensures { elim result [ Ok e ↦ self.old ≡ e ∷ self.new | Err q ↦ (q ≡ Refusal.EmptySheet) × (self.old ≡ []) × (self.new ≡ self.old) ] }
     {
@@ -74,6 +75,7 @@ impl Entries {
     }
 
     // Puts an entry at a place, and answers the entry that was there. A place that is not below the count is refused, and nothing changes.
+    #[tactic(auto, using(crate::proofs::Windows::window_length, crate::proofs::Windows::window_at, crate::proofs::Windows::window_set))]
     pub fn replace(&mut self, place: usize, e: u64) -> Result<u64, Refusal>
         ensures { elim result [ Ok old ↦ (place < length self.old) × (old ≡ slice_index self.old place) × (self.new ≡ slice_set self.old place e) | Err q ↦ (q ≡ Refusal.NoSuchPlace) × (length self.old ≤ place) × (self.new ≡ self.old) ] }
     {

@@ -28,6 +28,7 @@ impl<S: System> Reading<S> {
         ensures answer { elim result [ Ok e ↦ (e ≡ slice_index (sheet self.old) 0) × Accepts S.sys Call.Drop self.old self.new | Err q ↦ Refuses S.sys Call.Drop q self.old self.new ] }
     {
         let first = self.entries.pop_front()?;
+        // never refused: each entry of a reading is below the limit
         let value = S::entry(first)?;
         let inverse = &self.point.inverse;
         self.sum = self.sum.sub(&value).mul(inverse);
@@ -43,6 +44,7 @@ impl<S: System> Reading<S> {
     {
         let value = S::entry(e)?;
         let old = self.entries.replace(place, e)?;
+        // never refused: each entry of a reading is below the limit
         let old_value = S::entry(old)?;
         let power = exp_u64(&self.point.element, place as u64);
         self.sum = self.sum.add(&value.sub(&old_value).mul(&power));
@@ -50,6 +52,7 @@ impl<S: System> Reading<S> {
     }
 
     // The count and the sum.
+    #[tactic(auto, using(crate::proofs::Soundness::sound))]
     pub fn look(&self) -> (usize, S)
         ensures count { result.0 ≡ length (sheet self.now) }
         ensures sum { S.mean result.1 ≡ sum_of S.sys (S.mean self.now.point.element) (sheet self.now) }
@@ -81,10 +84,11 @@ impl<S: System> Reading<S> {
         ensures count { result.count ≡ length (sheet self) }
         ensures sum { S.mean result.sum ≡ sum_of S.sys (S.mean self.point.element) (sheet self) }
     {
+        let (count, sum) = self.look();
         Figure {
             element: self.point.element,
-            count: self.entries.len(),
-            sum: self.sum,
+            count,
+            sum,
         }
     }
 }

@@ -1,4 +1,4 @@
-use Rattle.std.proofs.Common.{ap, ◌∙◌, length, sym, subst}
+use Rattle.std.proofs.Common.{sym, ap, ◌∙◌, subst, length}
 use Rattle.algebra.specs.Ring.{power}
 use Rattle.reading.specs.Sheet.{sum_of, Below}
 use Rattle.reading.proofs.states.Point.begin.Goals as goal

@@ -1,5 +1,0 @@
-use Rattle.reading.proofs.Soundness.{sound}
-use Rattle.reading.proofs.states.Reading.look.Goals as goal
-
-pub returns-clause-sum : goal.returns-clause-sum
-returns-clause-sum g c = (sound c.args.self.now g.met.S.System.lawful).summed
