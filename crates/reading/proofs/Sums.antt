@@ -1,5 +1,5 @@
 -- What an entry more at the end, the first one taken away and one put in the place of another make of a sheet's sum, of its power and of its bound.
-use Rattle.std.proofs.Common.{◌≡◌, ℕ, suc, ◌<◌, List, [], ◌∷◌, ◌++◌, map, length, get_or, set, sym, ap, ◌∙◌, arith}
+use Rattle.std.proofs.Common.{◌≡◌, ℕ, suc, ◌<◌, List, [], ◌∷◌, ◌++◌, map, length, get_or, set, sym, ap, ◌∙◌, add-one, arith, length-append}
 use Prim.Native.Nat as N
 use Rattle.algebra.specs.Expr.{var, 𝟏, ◌⊞◌, ⊟, ◌⊠◌, same, among}
 use Rattle.algebra.specs.Ring.{Ops, Laws, sub, multiple, power}
@@ -73,8 +73,9 @@ module _ {A : Type 0} (o : Ops A) (W : Laws o) where
       ∙ solve o W (among o (multiple o d ∷ x ∷ at x L ∷ f ∷ p ∷ [])) (d' ⊞ x' ⊠ (v' ⊞ f' ⊠ p')) ((d' ⊞ x' ⊠ v') ⊞ f' ⊠ (x' ⊠ p')) tt
       ∙ ap (λ t. t ⊕ f ⊗ (x ⊗ p)) (sym (at_cons x d L))
 
-  pub power_next : (x : A) (n : ℕ) → power o x n ⊗ x ≡ power o x (suc n)
-  power_next x n = mul_comm (power o x n) x
+  -- one power more
+  pub power_append : (x : A) (L : List ℕ) (e : ℕ) → power o x (length L) ⊗ x ≡ power o x (length (L ++ (e ∷ [])))
+  power_append x L e = mul_comm (power o x (length L)) x ∙ ap (power o x) (sym (length-append L (e ∷ []) ∙ add-one (length L)))
 
   -- one power less
   pub power-drop : (x i : A) (n : ℕ) → Inverts o x i → power o x (suc n) ⊗ i ≡ power o x n

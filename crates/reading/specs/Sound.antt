@@ -1,11 +1,10 @@
 -- The sheet that a reading holds, what is true of every reading, and what its calls leave of it.
-use Rattle.std.specs.Prelude.{◌≡◌, ℕ, List, Some, None, Ok, Err, Result}
+use Rattle.std.specs.Prelude.{◌≡◌, ℕ, List, length, Some, None, Ok, Err, Result}
 use Rattle.algebra.specs.Ring.{power}
 use Rattle.algebra.specs.Units.{Inverts}
 use Rattle.numbers.specs.Systems.{Sys}
 use Rattle.numbers.specs.declared.refusal.Refusal.{Refusal}
 use Rattle.reading.specs.Sheet.{sum_of, refusal, taken, Below}
-use Rattle.reading.specs.Windows.{window}
 use Rattle.reading.specs.declared.calls.Call.{Call}
 use Rattle.reading.specs.declared.calls.Answer.{Answer}
 use Rattle.reading.specs.declared.calls.Answer.TheVariants.{Count, Entry, Seen}
@@ -14,19 +13,19 @@ use Rattle.reading.specs.declared.states.Figure.{Figure}
 
 -- the sheet that a reading holds
 abbrev pub sheet : {S : Type 0} {G : _} → Reading S G → List ℕ
-sheet r = window r.table r.start r.count
+sheet r = r.entries
 
 -- The inverse is the element's, the sum is the sheet's, the power is the element to the count, and every entry is below the limit.
 pub record Sound {S : Type 0} {G : _} (s : Sys) (mean : S → s.Elem) (r : Reading S G) : Type 0 where
-  pub inverts : Inverts s.ops (mean r.element) (mean r.inverse)
-  pub summed : mean r.sum ≡ sum_of s (mean r.element) (sheet r)
-  pub raised : mean r.power ≡ power s.ops (mean r.element) r.count
+  pub inverts : Inverts s.ops (mean r.point.element) (mean r.point.inverse)
+  pub summed : mean r.sum ≡ sum_of s (mean r.point.element) (sheet r)
+  pub raised : mean r.power ≡ power s.ops (mean r.point.element) (length (sheet r))
   pub below : Below s.limit (sheet r)
 
 -- a later state of a reading is at the same point
 pub record SamePoint {S : Type 0} {G : _} (before later : Reading S G) : Type 0 where
-  pub element : later.element ≡ before.element
-  pub inverse : later.inverse ≡ before.inverse
+  pub element : later.point.element ≡ before.point.element
+  pub inverse : later.point.inverse ≡ before.point.inverse
 
 -- the sheet takes the call, and the reading then holds the list that is left
 pub record Accepts {S : Type 0} {G : _} (s : Sys) (c : Call) (before later : Reading S G) : Type 0 where

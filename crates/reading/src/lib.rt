@@ -3,4 +3,5 @@
 #![tactic(auto)]
 
 pub mod calls;
+mod entries;
 pub mod states;

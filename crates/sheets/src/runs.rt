@@ -21,9 +21,9 @@ pub struct Run<S: System> {
 // Makes the calls one after another, and puts down the answer to each.
 fn play<S: System>(reading: &mut Reading<S>, calls: &[Call], out: &mut [Result<Answer<S>, Refusal>])
     requires { length out.old ≡ length calls.now }
-    ensures point { reading.new.element ≡ reading.old.element }
+    ensures point { reading.new.point.element ≡ reading.old.point.element }
     ensures list { sheet reading.new ≡ after S.sys (sheet reading.old) calls.now }
-    ensures answers { map (said S.mean) out.new ≡ answers S.sys (S.mean reading.old.element) (sheet reading.old) calls.now }
+    ensures answers { map (said S.mean) out.new ≡ answers S.sys (S.mean reading.old.point.element) (sheet reading.old) calls.now }
 {
     // by places, since a proof knows nothing of what is written through an adapter of `iter_mut`
     for (i, call) in calls.iter().enumerate() {

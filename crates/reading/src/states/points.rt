@@ -3,7 +3,8 @@ ghost use Rattle.std.specs.Prelude.{◌≡◌, [], Ok, Err};
 ghost use Rattle.algebra.specs.Units.{Inverts, NoInverse};
 ghost use Rattle.reading.specs.Sound.{sheet};
 
-use super::{MOST, Point, Reading};
+use super::{Point, Reading};
+use crate::entries::Entries;
 use numbers::refusal::Refusal;
 use numbers::system::System;
 
@@ -37,16 +38,13 @@ impl<S: System> Point<S> {
     // An open reading without entries, which uses the point up.
     pub fn begin(self) -> Reading<S>
         ensures empty { sheet result ≡ [] }
-        ensures point { (result.element ≡ self.element) × (result.inverse ≡ self.inverse) }
+        ensures point { (result.point.element ≡ self.element) × (result.point.inverse ≡ self.inverse) }
     {
         let sum = S::zero();
         let power = S::one();
         Reading {
-            element: self.element,
-            inverse: self.inverse,
-            table: [0; MOST],
-            start: 0,
-            count: 0,
+            point: self,
+            entries: Entries::empty(),
             sum,
             power,
         }

@@ -3,7 +3,7 @@ ghost use Rattle.std.specs.Prelude.{◌≡◌, ◌+◌, length, Ok, Err, slice_i
 ghost use Rattle.reading.specs.Sheet.{changed, told, said, sum_of};
 ghost use Rattle.reading.specs.Sound.{SamePoint, Accepts, Refuses, Leaves, sheet};
 
-use super::{Figure, MOST, Reading};
+use super::{Figure, Reading};
 use crate::calls::{Answer, Call};
 use numbers::powers::exp_u64;
 use numbers::refusal::Refusal;
@@ -16,15 +16,10 @@ impl<S: System> Reading<S> {
         ensures answer { elim result [ Ok n ↦ (n ≡ length (sheet self.old) + 1) × Accepts S.sys (Call.Append e) self.old self.new | Err q ↦ Refuses S.sys (Call.Append e) q self.old self.new ] }
     {
         let value = S::entry(e)?;
-        if self.count >= MOST {
-            return Err(Refusal::FullSheet);
-        }
-        let place = (self.start + self.count) % MOST;
-        self.table[place] = e;
+        let count = self.entries.push_back(e)?;
         self.sum = self.sum.add(&value.mul(&self.power));
-        self.power = self.power.mul(&self.element);
-        self.count += 1;
-        Ok(self.count)
+        self.power = self.power.mul(&self.point.element);
+        Ok(count)
     }
 
     // Takes the first entry away, and answers it. A sheet without entries is refused.
@@ -32,16 +27,12 @@ impl<S: System> Reading<S> {
         ensures point { SamePoint self.old self.new }
         ensures answer { elim result [ Ok e ↦ (e ≡ slice_index (sheet self.old) 0) × Accepts S.sys Call.Drop self.old self.new | Err q ↦ Refuses S.sys Call.Drop q self.old self.new ] }
     {
-        if self.count == 0 {
-            return Err(Refusal::EmptySheet);
-        }
-        let first = self.table[self.start];
+        let first = self.entries.pop_front()?;
+        // never refused: each entry of a reading is below the limit
         let value = S::entry(first)?;
-        let lower = self.power.mul(&self.inverse);
-        self.sum = self.sum.sub(&value).mul(&self.inverse);
-        self.power = lower;
-        self.start = (self.start + 1) % MOST;
-        self.count -= 1;
+        let inverse = &self.point.inverse;
+        self.sum = self.sum.sub(&value).mul(inverse);
+        self.power = self.power.mul(inverse);
         Ok(first)
     }
 
@@ -52,24 +43,21 @@ impl<S: System> Reading<S> {
         ensures answer { elim result [ Ok old ↦ (old ≡ slice_index (sheet self.old) place) × Accepts S.sys (Call.Replace place e) self.old self.new | Err q ↦ Refuses S.sys (Call.Replace place e) q self.old self.new ] }
     {
         let value = S::entry(e)?;
-        if place >= self.count {
-            return Err(Refusal::NoSuchPlace);
-        }
-        let slot = (self.start + place) % MOST;
-        let old = self.table[slot];
+        let old = self.entries.replace(place, e)?;
+        // never refused: each entry of a reading is below the limit
         let old_value = S::entry(old)?;
-        let power = exp_u64(&self.element, place as u64);
-        self.table[slot] = e;
+        let power = exp_u64(&self.point.element, place as u64);
         self.sum = self.sum.add(&value.sub(&old_value).mul(&power));
         Ok(old)
     }
 
     // The count and the sum.
+    #[tactic(auto, using(crate::proofs::Soundness::sound))]
     pub fn look(&self) -> (usize, S)
         ensures count { result.0 ≡ length (sheet self.now) }
-        ensures sum { S.mean result.1 ≡ sum_of S.sys (S.mean self.now.element) (sheet self.now) }
+        ensures sum { S.mean result.1 ≡ sum_of S.sys (S.mean self.now.point.element) (sheet self.now) }
     {
-        (self.count, self.sum)
+        (self.entries.len(), self.sum)
     }
 
     // Any of these calls, with its answer or its refusal.
@@ -77,7 +65,7 @@ impl<S: System> Reading<S> {
         ensures point { SamePoint self.old self.new }
         ensures list { sheet self.new ≡ changed S.sys (sheet self.old) call }
         ensures unchanged { Leaves result self.old self.new }
-        ensures answer { said S.mean result ≡ told S.sys (S.mean self.old.element) (sheet self.old) call }
+        ensures answer { said S.mean result ≡ told S.sys (S.mean self.old.point.element) (sheet self.old) call }
     {
         match call {
             Call::Append(e) => Ok(Answer::Count(self.append(e)?)),
@@ -92,14 +80,15 @@ impl<S: System> Reading<S> {
 
     // The figure, which uses the reading up.
     pub fn close(self) -> Figure<S>
-        ensures element { result.element ≡ self.element }
+        ensures element { result.element ≡ self.point.element }
         ensures count { result.count ≡ length (sheet self) }
-        ensures sum { S.mean result.sum ≡ sum_of S.sys (S.mean self.element) (sheet self) }
+        ensures sum { S.mean result.sum ≡ sum_of S.sys (S.mean self.point.element) (sheet self) }
     {
+        let (count, sum) = self.look();
         Figure {
-            element: self.element,
-            count: self.count,
-            sum: self.sum,
+            element: self.point.element,
+            count,
+            sum,
         }
     }
 }

@@ -14,7 +14,7 @@ pub loop-i-preserved : goal.loop-i-preserved
 loop-i-preserved g c =
     let s = g.S.System.sys in
     let m = g.S.System.mean in
-    let x = m c.args.reading.now.element in
+    let x = m c.args.reading.now.point.element in
     let L = sheet c.args.reading.now in
     let i = c.loop-i.i in
     let cs = c.args.calls.now in
@@ -37,7 +37,7 @@ pub returns : goal.returns
 returns g c =
     let s = g.S.System.sys in
     let m = g.S.System.mean in
-    let x = m c.args.reading.now.element in
+    let x = m c.args.reading.now.point.element in
     let L = sheet c.args.reading.now in
     let inv = c.loop-i.invariant in
     let all : length c.args.calls.now ≤ c.loop-i.i = omega arith in

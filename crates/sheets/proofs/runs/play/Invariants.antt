@@ -9,7 +9,7 @@ invariant-loop-i g l =
     let s = g.S.System.sys in
     let m = g.S.System.mean in
     let L = sheet l.initial.reading in
-    (l.reading.element ≡ l.initial.reading.element)
+    (l.reading.point.element ≡ l.initial.reading.point.element)
     × (sheet l.reading ≡ after s L (take l.i l.calls))
-    × (map (said m) (take l.i l.out) ≡ answers s (m l.initial.reading.element) L (take l.i l.calls))
+    × (map (said m) (take l.i l.out) ≡ answers s (m l.initial.reading.point.element) L (take l.i l.calls))
     × (length l.out ≡ length l.calls)

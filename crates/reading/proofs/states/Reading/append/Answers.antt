@@ -1,59 +1,46 @@
-use Rattle.std.proofs.Common.{◌≡◌, ◌+◌, ◌<◌, ◌≤◌, length, sym, refl, ap, subst, ◌∙◌, ap₂, add-one, arith, rules}
+use Rattle.std.proofs.Common.{length, sym, refl, ap, ◌∙◌, subst, ap₂}
+use Rattle.std.proofs.lemmas.Result.{err_from_is_err_and}
 use Rattle.algebra.specs.Ring.{power}
-use Rattle.reading.specs.Sheet.{most, sum_of, Below}
+use Rattle.reading.specs.Sheet.{sum_of, Below}
 use Rattle.reading.specs.Sound.{sheet}
-use Rattle.reading.proofs.Refusals.{append_taken, append_full}
-use Rattle.reading.proofs.Soundness.{sound}
-use Rattle.reading.proofs.Sums.{sum_append, power_next, below_append}
-use Rattle.reading.proofs.Windows.{window_length, window_append}
+use Rattle.reading.proofs.Refusals.{append_full}
+use Rattle.reading.proofs.Soundness.{sound, same_reading}
+use Rattle.reading.proofs.Sums.{sum_append, power_append, below_append}
 use Rattle.reading.proofs.states.Reading.append.Goals as goal
 
-pub returns-then-self-ge-MOST-clause-answer : goal.returns-then-self-ge-MOST-clause-answer
-returns-then-self-ge-MOST-clause-answer g c =
-    let s = c.args.self.now in
-    let full : most ≤ length (sheet s) = omega (arith, window_length s.table s.start s.count) in
-    record { refused = append_full g.S.System.sys (sheet s) c.args.e c.in_ok-value.ensures.0 full; unchanged = refl }
+pub returns-in_err-count-clause-answer : goal.returns-in_err-count-clause-answer
+returns-in_err-count-clause-answer g c =
+    let p = err_from_is_err_and c.from_residual-in_err-count.result c.from_residual-in_err-count.ensures.1 in
+    let full = c.in_err-count.ensures in
+    rw (p.1, p.2, full.0) (record {
+      refused = append_full g.S.System.sys (sheet c.args.self.now) c.args.e c.in_ok-value.ensures.0 full.1;
+      unchanged = same_reading _ _ refl full.2 refl refl;
+    })
 
-pub invariant_of-self-clause-summed : goal.invariant_of-self-clause-summed
-invariant_of-self-clause-summed g c =
+pub invariant_of-self-3-clause-summed : goal.invariant_of-self-3-clause-summed
+invariant_of-self-3-clause-summed g c =
     let sys = g.S.System.sys in
     let o = sys.ops in
     let W = g.met.S.System.lawful in
     let s = c.args.self.now in
-    let x = g.S.System.mean s.element in
-    let len : length s.table ≡ most = search rules in
-    let list = window_append s.table s.start s.count c.args.e len c.if-self-ge-MOST.false in
-    let raised = (sound s W).raised ∙ ap (power o x) (sym (window_length s.table s.start s.count)) in
+    let x = g.S.System.mean s.point.element in
     ∣ c.add-self.ensures
-    ∙ ap₂ o.add (sound s W).summed (c.mul.ensures ∙ ap₂ o.mul c.in_ok-value.ensures.1 raised)
-    ∙ sym (ap (sum_of sys x) list ∙ sum_append o W.ring x (sheet s) c.args.e) ∣₁
+    ∙ ap₂ o.add (sound s W).summed (c.mul.ensures ∙ ap₂ o.mul c.in_ok-value.ensures.1 (sound s W).raised)
+    ∙ sym (ap (sum_of sys x) c.in_ok-count.ensures.1 ∙ sum_append o W.ring x (sheet s) c.args.e) ∣₁
 
-pub invariant_of-self-clause-raised : goal.invariant_of-self-clause-raised
-invariant_of-self-clause-raised g c =
-    let sys = g.S.System.sys in
-    let o = sys.ops in
+pub invariant_of-self-3-clause-raised : goal.invariant_of-self-3-clause-raised
+invariant_of-self-3-clause-raised g c =
+    let o = g.S.System.sys.ops in
     let W = g.met.S.System.lawful in
     let s = c.args.self.now in
-    let x = g.S.System.mean s.element in
-    ∣ c.mul-self.ensures ∙ ap (λ p. o.mul p x) (sound s W).raised ∙ power_next o W.ring x s.count ∙ ap (power o x) (sym (add-one s.count)) ∣₁
+    let x = g.S.System.mean s.point.element in
+    ∣ c.mul-self.ensures
+    ∙ ap (λ p. o.mul p x) (sound s W).raised
+    ∙ power_append o W.ring x (sheet s) c.args.e
+    ∙ sym (ap (λ l. power o x (length l)) c.in_ok-count.ensures.1) ∣₁
 
-pub invariant_of-self-clause-below : goal.invariant_of-self-clause-below
-invariant_of-self-clause-below g c =
+pub invariant_of-self-3-clause-below : goal.invariant_of-self-3-clause-below
+invariant_of-self-3-clause-below g c =
+    let limit = g.S.System.sys.limit in
     let s = c.args.self.now in
-    let len : length s.table ≡ most = search rules in
-    let list = window_append s.table s.start s.count c.args.e len c.if-self-ge-MOST.false in
-    subst (Below g.S.System.sys.limit) (sym list) (below_append g.S.System.sys.limit (sheet s) c.args.e s.below c.in_ok-value.ensures.0)
-
-pub returns-clause-answer : goal.returns-clause-answer
-returns-clause-answer g c =
-    let s = c.args.self.now in
-    let len : length s.table ≡ most = search rules in
-    let room = c.if-self-ge-MOST.false in
-    let sized = window_length s.table s.start s.count in
-    let fits : length (sheet s) < most = omega (arith, sized, room) in (
-      ap (λ n. n + 1) (sym sized),
-      record {
-        accepted = append_taken g.S.System.sys (sheet s) c.args.e c.in_ok-value.ensures.0 fits;
-        list = window_append s.table s.start s.count c.args.e len room;
-      },
-    )
+    subst (Below limit) (sym c.in_ok-count.ensures.1) (below_append limit (sheet s) c.args.e s.below c.in_ok-value.ensures.0)
