@@ -1,4 +1,4 @@
-// A calculator for the bases: it reads a command from a line, works it out, and says what comes of it.
+// A calculator for the bases and the nine systems: it reads a command from a line, works it out, and says what comes of it.
 #![tactic(auto)]
 
 pub mod command;
@@ -6,4 +6,5 @@ pub mod evaluate;
 pub mod line;
 pub mod parse;
 pub mod respond;
+mod systems;
 pub mod text;
