@@ -160,15 +160,17 @@ abbrev pub Writes : Command (List ℕ) → List (List ℕ) → Type 0
 Writes (C.TheVariants.Base b c) ws = Says base_lines b c ws
 Writes (C.TheVariants.System n c) ws = Says system_lines n c ws
 
--- what a reason says of the words of a line of the kind: the place is unknown; or else the call is; or else the operands are too few or too many; or else one of them fails
+-- the operands of the call are too few or too many, or else one of them fails
+abbrev pub OperandsLack : {P N A : Type 0} → Kind P N A → N → List (List ℕ) → Reason → Type 0
+OperandsLack k v ws why = ((length ws ≢ 3 + k.count v) × (why ≡ WrongOperands)) ⊎ ((length ws ≡ 3 + k.count v) × k.Fail v (word ws 3) (word ws 4) why)
+
+-- the call is unknown, or else its operands lack something
+abbrev pub CallLacks : {P N A : Type 0} → Kind P N A → List (List ℕ) → Reason → Type 0
+CallLacks {P} {N} k ws why = (((v : N) → word ws 2 ≢ k.text_of v) × (why ≡ UnknownCall)) ⊎ ((v : N) × (word ws 2 ≡ k.text_of v) × OperandsLack k v ws why)
+
+-- what a reason says of the words of a line of the kind: the place is unknown, or else the call lacks something
 abbrev pub Lacks : {P N A : Type 0} → Kind P N A → List (List ℕ) → Reason → Type 0
-Lacks {P} {N} k ws why =
-    (((p : P) → k.Is (word ws 1) p → ⊥) × (why ≡ k.unknown))
-    ⊎ (((p : P) × k.Is (word ws 1) p)
-    × ((((v : N) → word ws 2 ≢ k.text_of v) × (why ≡ UnknownCall))
-    ⊎ ((v : N) × (word ws 2 ≡ k.text_of v)
-    × (((length ws ≢ 3 + k.count v) × (why ≡ WrongOperands))
-    ⊎ ((length ws ≡ 3 + k.count v) × k.Fail v (word ws 3) (word ws 4) why)))))
+Lacks {P} k ws why = (((p : P) → k.Is (word ws 1) p → ⊥) × (why ≡ k.unknown)) ⊎ (((p : P) × k.Is (word ws 1) p) × CallLacks k ws why)
 
 -- what a reason says of the words: all before it is right, and this is not
 abbrev pub Because : List (List ℕ) → Reason → Type 0
