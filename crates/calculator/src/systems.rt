@@ -6,8 +6,8 @@ ghost use Rattle.calculator.specs.Settings.{ruled};
 ghost use Rattle.calculator.specs.Results.{Settled};
 ghost use Rattle.calculator.specs.declared.command.SystemCall.TheVariants.{Scale};
 
+use crate::calls::{answer, two};
 use crate::command::SystemCall;
-use crate::evaluate::{answer, two};
 use extensions::below;
 use extensions::coefficients::Coefficients;
 use extensions::conjugates::{ConjugateRule, Conjugates, pseudo_inv};
@@ -55,6 +55,7 @@ pub(crate) fn without_conjugates<S: PrefixListed, V: Coefficients<S>, R: Rule<V,
         SystemCall::Common(call) => answer(call),
         SystemCall::Scale(l, k) => scale(l, k),
         SystemCall::Frobenius(l, _) | SystemCall::ConjugateInverse(l) => {
+            // a list that is no element is refused for that
             Element::<S, V, R>::from_list(l)?;
             Err(Refusal::NoConjugates)
         }
