@@ -3,7 +3,7 @@ use Rattle.std.specs.Prelude.{◌≡◌, ℕ, ◌+◌, ◌-◌, ◌^◌, ◌<◌
 use Rattle.numbers.specs.Refusals.{text_of}
 use Rattle.calculator.specs.Text.{words, listing}
 use Rattle.calculator.specs.Commands.{Writes, Because, Nothing, reason_text}
-use Rattle.calculator.specs.Results.{GivesList, Stops, system_of}
+use Rattle.calculator.specs.Results.{GivesList, IsRefused}
 use Rattle.calculator.specs.declared.command.Command.{Command}
 use Rattle.calculator.specs.declared.line.Answer.{Answer}
 use Rattle.calculator.specs.declared.line.Answer.TheVariants.{Element, Refused, Unreadable}
@@ -11,12 +11,12 @@ use Rattle.calculator.specs.declared.line.Tally.{Tally}
 
 -- the line is a command of which P holds
 abbrev pub Commands : List ℕ → (Command (List ℕ) → Type 0) → Type 0
-Commands line P = (c : Command (List ℕ)) × Writes (λ l. l) c (words line) × P c
+Commands line P = (c : Command (List ℕ)) × Writes c (words line) × P c
 
--- The answer to a line: the list of what its command gives in the base's system, or the refusal of that command there, or the first reason why it is none.
+-- The answer to a line: the list of what its command gives, or the refusal of that command, or the first reason why it is none.
 abbrev pub Answers : List ℕ → Answer → Type 0
-Answers line (Element v) = Commands line (λ c. GivesList (system_of c.base) c.call (vec_items v))
-Answers line (Refused e) = Commands line (λ c. Stops (system_of c.base) c.call e)
+Answers line (Element v) = Commands line (λ c. GivesList c (vec_items v))
+Answers line (Refused e) = Commands line (λ c. IsRefused c e)
 Answers line (Unreadable why) = Because (words line) why × Nothing (words line)
 
 -- how an answer is written

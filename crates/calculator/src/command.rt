@@ -16,7 +16,7 @@ pub enum Base {
     Mersenne31,
 }
 
-// The name of a call.
+// The name of a call in a base.
 #[derive(Clone, Copy, PartialEq, Eq, Debug)]
 pub enum Verb {
     Sum,
@@ -29,7 +29,7 @@ pub enum Verb {
     Inverse,
 }
 
-// A call with its operands; `L` is the type of a list of numbers, which is to be an element.
+// A call in a base, with its operands; `L` is the type of a list of numbers, which is to be an element.
 #[derive(Drop)]
 pub enum Call<L> {
     Sum(L, L),
@@ -42,20 +42,42 @@ pub enum Call<L> {
     Inverse(L),
 }
 
-// A call in a base.
+// The name of a call in a system.
+#[derive(Clone, Copy, PartialEq, Eq, Debug)]
+pub enum SystemVerb {
+    // one that the bases have too
+    Common(Verb),
+    Scale,
+    Frobenius,
+    ConjugateInverse,
+}
+
+// A call in a system, with its operands.
 #[derive(Drop)]
-pub struct Command<L> {
-    pub base: Base,
-    pub call: Call<L>,
+pub enum SystemCall<L> {
+    Common(Call<L>),
+    // an element of the system, and one of the layer below
+    Scale(L, L),
+    Frobenius(L, u64),
+    ConjugateInverse(L),
+}
+
+// A call in a base, or in the system of a number, which may be strange.
+#[derive(Drop)]
+pub enum Command<L> {
+    Base { base: Base, call: Call<L> },
+    System { number: u64, call: SystemCall<L> },
 }
 
 // Why a line cannot be read.
 #[derive(Clone, Copy, PartialEq, Eq, Debug)]
 pub enum Reason {
-    // the first word is not `base`
-    NoBase,
+    // the first word is neither `base` nor `system`
+    NoPlace,
     // the second word is no base's modulus
     UnknownBase,
+    // the second word is no number of a system, or is too large
+    UnknownSystem,
     // the third word names no call
     UnknownCall,
     // the call does not have this many operands

@@ -13,7 +13,7 @@ returns g c =
     let list = g.S.System.sys.list (g.S.System.mean c.args.x.now) in
     let n = c.size.result in
     let shown : ℕ → ℕ = λ i. get_or (take 65535 list) i 0 in
-    let long : length list ≡ n = omega (arith, c.size.ensures, g.met.S.System.lawful.list_size (g.S.System.mean c.args.x.now), g.met.S.Listed.whole) in
+    let long : length list ≡ n = omega (arith, c.size.ensures, g.met.S.System.lawful.list_size (g.S.System.mean c.args.x.now), c.requires) in
     let all : list ≡ map shown (range_with_len 0 n) = fill_by_all shown list n 0 long (λ k l. sym (get_or-take 65535 list k 0 (omega (arith, c.size.ensures)))) in
     subst (λ (l : List ℕ). IfOk c.collect.result (λ v. vec_items v ≡ l)) (sym all)
     (items_from_collect c.collect.result c.collect.ensures.ran
