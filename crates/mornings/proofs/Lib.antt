@@ -1,2 +1,3 @@
+pub mod Reasons
 pub mod Stopped
 pub mod Texts

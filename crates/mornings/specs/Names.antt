@@ -54,7 +54,7 @@ NamesHandset text r = MatchResult r (λ n. text ≡ handset_text n) (λ why. (wh
 -- what is printed for a reason
 abbrev pub reason_text : Reason → List ℕ
 reason_text NoItem = codes "no such item"
-reason_text StrangeSystem = codes "the system is not a number from 1 to 9"
+reason_text StrangeSystem = codes "strange system: not a number from 1 to 9"
 reason_text NoPoint = codes "the point is neither random nor a list of numbers in brackets"
 reason_text StrangeHandset = codes "the handset is not a number from 1 to 6"
 reason_text NoCall = codes "a call is none of append E, drop, replace I E and look"

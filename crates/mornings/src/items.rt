@@ -202,7 +202,7 @@ impl fmt::Display for Reason {
     fn fmt<W: fmt::Write>(&self, f: &mut fmt::Formatter<W>) -> fmt::Result {
         match self {
             Reason::NoItem => f.write_str("no such item"),
-            Reason::StrangeSystem => f.write_str("the system is not a number from 1 to 9"),
+            Reason::StrangeSystem => f.write_str("strange system: not a number from 1 to 9"),
             Reason::NoPoint => {
                 f.write_str("the point is neither random nor a list of numbers in brackets")
             }

@@ -2,7 +2,7 @@
 ghost use Rattle.std.specs.Prelude.{◌≡◌, ◌<◌, ◌⊎◌, codes, map, IfOk, MatchOption, MatchResult, vec_items};
 ghost use Rattle.calculator.specs.Commands.{NoListing, NotNumber};
 ghost use Rattle.calculator.specs.Text.{Listing, Number, items, parts};
-ghost use Rattle.mornings.specs.Lines.{After, Because, Calls, Fails, FirstBad, Headed, Hindered, IsCall, Misnumbered, NotCall, Numbered, Pointless, Says, Unfollowed, Writes};
+ghost use Rattle.mornings.specs.Lines.{After, Because, Calls, Fails, FirstBad, Headed, Hindered, IsCall, Misnumbered, NotCall, Nothing, Numbered, Pointless, Says, Unfollowed, Writes};
 ghost use Rattle.mornings.specs.Names.{system_text};
 
 use crate::items::{Fault, HandsetNumber, Item, PointSource, Reason, SystemNumber};
@@ -129,9 +129,9 @@ fn item(heap: Global, first: &str, rest: &str) -> Result<Item, Fault>
     }
 }
 
-// The item that a line says, or why it says none.
+// The item that a line says, or why it says none; then no item is written so.
 pub fn parse(heap: Global, line: &str) -> Result<Item, Fault>
-    ensures { MatchResult result (λ i. Writes i line.now) (Hindered (Because line.now)) }
+    ensures { MatchResult result (λ i. Writes i line.now) (Hindered (λ why. Because line.now why × Nothing line.now)) }
 {
     let (first, rest) = head(line);
     item(heap, first, rest)
