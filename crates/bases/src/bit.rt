@@ -99,6 +99,7 @@ impl System for Bit {
     }
 }
 
+// As for residues: one function for both would ask three facts of the system, to save three lines.
 impl PrefixListed for Bit {
     fn size() -> usize {
         1

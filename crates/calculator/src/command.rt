@@ -16,7 +16,7 @@ pub enum Base {
     Mersenne31,
 }
 
-// The name of a call in a base.
+// The name of a call in a base, which is read before its operands.
 #[derive(Clone, Copy, PartialEq, Eq, Debug)]
 pub enum Verb {
     Sum,
@@ -111,7 +111,7 @@ impl From<AllocError> for Fault {
     }
 }
 
-// What keeps a command from giving a result: the error of `evaluate`.
+// What keeps a command from giving a result: the error of `evaluate`. `parse` refuses nothing, so the two errors are two types.
 #[derive(PartialEq, Eq, Debug, Drop)]
 pub enum Halt {
     Refused(Refusal),

@@ -17,7 +17,7 @@ pub fn passed_over(line: &str) -> bool
     line.starts_with('#') || line.bytes().all(|b| b == b' ')
 }
 
-// The answer to a line.
+// The answer to a line. Of the two errors of each step one is an answer, and only want of memory is passed on.
 pub fn respond(heap: Global, line: &str) -> Result<Answer, AllocError>
     ensures { IfOk result (Answers line.now) }
 {
@@ -33,7 +33,7 @@ pub fn respond(heap: Global, line: &str) -> Result<Answer, AllocError>
     }
 }
 
-// A list of numbers, which is printed in brackets, with commas between.
+// A list of numbers, which is printed in brackets, with commas between; nothing stands in them for an empty list.
 #[derive(Clone, Copy)]
 struct NumberList<'a>(&'a [u64]);
 

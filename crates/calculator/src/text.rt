@@ -16,7 +16,7 @@ pub(crate) fn split<'a>(
     text.split(separator).collect(heap)
 }
 
-// The number that a text is, in decimal digits; none if it is no such text.
+// The number that a text is, in decimal digits; none if it is no such text. Not every text that `u64` reads is one: twenty digits at most, and no sign.
 pub fn number(text: &str) -> Option<u64>
     ensures { Found (λ n. n) (Number text.now) result }
 {
@@ -33,7 +33,7 @@ fn inside(text: &str) -> Option<&str>
     text.strip_prefix('[')?.strip_suffix(']')
 }
 
-// The numbers that texts are, one by one; none if one of them is no number.
+// The numbers that texts are, one by one; none if one of them is no number. By a loop, since of a `collect` into an `Option` nothing is promised of the value.
 fn numbers(heap: Global, texts: &[&str]) -> Result<Option<Vec<u64>>, AllocError>
     ensures { IfOk result (Found vec_items (Numbers (map (λ x. x.now) texts.now))) }
 {
@@ -47,7 +47,7 @@ fn numbers(heap: Global, texts: &[&str]) -> Result<Option<Vec<u64>>, AllocError>
     Ok(Some(found))
 }
 
-// The list of numbers that a text is, in brackets and with commas between; none if it is no such text.
+// The list of numbers that a text is, in brackets and with commas between; none if it is no such text, for which each caller has a reason of its own.
 pub fn list(heap: Global, text: &str) -> Result<Option<Vec<u64>>, AllocError>
     ensures { IfOk result (Found vec_items (Listing text.now)) }
 {

@@ -1,4 +1,5 @@
-// The roots of one by which the extensions by a root of X^n − w have conjugates: z is w^((q − 1)/n), with q the number of elements below. The split extension has none.
+// The roots of one by which the extensions by a root of X^n − w have conjugates: z is w^((q − 1)/n), with q the number of elements below. The split extension has none. Each has its
+// own implementation, since each law is computed from its own number.
 ghost use Rattle.std.proofs.Common.{lit<};
 
 use crate::constants::{Complex, FiveI, MinusOne, Whole};

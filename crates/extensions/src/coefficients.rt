@@ -5,7 +5,8 @@ ghost use Rattle.extensions.specs.Tuples.{Tuple, entries, tabulate, each, fill};
 use numbers::system::System;
 
 // A type whose values hold the coefficients of an element: `d` is the degree less one, and `tuple` has them in their order.
-// There is a struct for each degree, since the project's rules want coefficients as single named fields.
+// There is a struct for each degree, since the project's rules want coefficients as single named fields. What the coefficients mean, `each (suc d) S.mean (tuple a)`, is written
+// out in clauses, since a ghost member that is data cannot cite one of another bound.
 pub trait Coefficients<S: System>: Copy {
     ghost d: { ℕ };
 

@@ -11,7 +11,7 @@ use crate::coefficients::Coefficients;
 use numbers::system::System;
 
 // A type that stands for the product modulo a polynomial: `product` is that product as a formula, for tuples of any length.
-// V stands before S, so that the crate of a struct of coefficients may say how these are multiplied.
+// Each degree has its own, which names the functions of that degree and nothing else. V stands before S, so that the crate of a struct of coefficients may say how these are multiplied.
 pub trait Rule<V: Coefficients<S>, S: System>: Copy {
     ghost product: { Products S };
 

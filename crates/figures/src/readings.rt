@@ -28,7 +28,7 @@ pub fn root() -> System8
     })
 }
 
-// The figure after any calls at X, which has an inverse; the answers to so many calls fit in memory.
+// What the rows of the table have in common, each with calls and a figure of its own: the figure after any calls at X, which has an inverse; the answers to so many calls fit in memory.
 fn figure_after<const N: usize>(calls: &[Call; N]) -> Result<Figure<System8>, Refusal>
     requires { N < 2 ^ 32 }
     ensures { Leaves result (length (after system_8 [] calls.now)) (system_8.list (sum_of system_8 X (after system_8 [] calls.now))) }

@@ -25,7 +25,7 @@ pub enum Refusal {
 }
 
 impl Refusal {
-    // The number that stands for the refusal.
+    // The number that stands for the refusal, as host calls answer it.
     pub fn number(&self) -> u32
         ensures { result ≡ number_of self.now }
     {

@@ -1,4 +1,4 @@
-// Arithmetic of eight coefficients, with X⁸ = w.
+// Arithmetic of eight coefficients, with X⁸ = w. The coefficients of a product are eight formulas, with the names of the Rust.
 ghost use Rattle.std.specs.Prelude.{◌≡◌, Some, None};
 ghost use Rattle.algebra.specs.Units.{Inverts, NoInverse};
 ghost use Rattle.extensions.specs.Extensions.{binomial_extension};

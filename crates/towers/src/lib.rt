@@ -27,7 +27,7 @@ impl Modulus for Twelve {
     ghost bounds = { record { low = lit≤ tt; high = lit< tt } };
 }
 
-// X³ = 5
+// X³ = 5; a type of its own, so that the tower stands without the catalog
 #[derive(Clone, Copy)]
 pub struct Five;
 
