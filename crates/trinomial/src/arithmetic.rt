@@ -8,7 +8,7 @@ use numbers::dot_products::{dot_product_2, dot_product_3, dot_product_5};
 use numbers::system::System;
 use quintic::quintuple::Quintuple;
 
-// Nine coefficients reduced by X^5 = 1 − X², X^6 = X − X³, X^7 = X² − X⁴ and X^8 = X³ + X² − 1.
+// Nine coefficients, which no other function takes, reduced by X^5 = 1 − X², X^6 = X − X³, X^7 = X² − X⁴ and X^8 = X³ + X² − 1.
 fn reduce<S: System>(c0: S, c1: S, c2: S, c3: S, c4: S, c5: S, c6: S, c7: S, c8: S) -> Quintuple<S>
     ensures { quintuple S.mean result ≡ reduced S.sys.ops (S.mean c0) (S.mean c1) (S.mean c2) (S.mean c3) (S.mean c4) (S.mean c5) (S.mean c6) (S.mean c7) (S.mean c8) }
 {
