@@ -5,7 +5,7 @@ use Rattle.reading.specs.Sheet.{sum_of, Below}
 use Rattle.reading.specs.Sound.{sheet}
 use Rattle.reading.proofs.Refusals.{append_full}
 use Rattle.reading.proofs.Soundness.{sound, same_reading}
-use Rattle.reading.proofs.Sums.{sum_append, power_append, below_append}
+use Rattle.reading.proofs.Sums.{sum_append, power-append, below_append}
 use Rattle.reading.proofs.states.Reading.append.Goals as goal
 
 pub returns-in_err-count-clause-answer : goal.returns-in_err-count-clause-answer
@@ -36,7 +36,7 @@ invariant_of-self-3-clause-raised g c =
     let x = g.S.System.mean s.point.element in
     ∣ c.mul-self.ensures
     ∙ ap (λ p. o.mul p x) (sound s W).raised
-    ∙ power_append o W.ring x (sheet s) c.args.e
+    ∙ power-append o W.ring x (sheet s) c.args.e
     ∙ sym (ap (λ l. power o x (length l)) c.in_ok-count.ensures.1) ∣₁
 
 pub invariant_of-self-3-clause-below : goal.invariant_of-self-3-clause-below
