@@ -66,7 +66,7 @@ Denied s (Inverse l) e = One s l (λ a. NoInverse s.ops a) × (e ≡ R.TheVarian
 abbrev pub Stops : (s : Sys) → Call (List ℕ) → Refusal → Type 0
 Stops s c e = Refused s (lists c) e ⊎ Denied s c e
 
--- x is what the call gives in an extension, whose Frobenius map is φ
+-- x is what the call gives in an extension; what goes by conjugates it gives only where there are some
 abbrev pub SystemGives : (t : Setting) → SystemCall (List ℕ) → (whole t).Elem → Type 0
 SystemGives t (Common c) x = Gives (whole t) c x
 SystemGives t (Scale l k) x = One (whole t) l (λ a. One t.below k (λ b. x ≡ scaled (suc t.d) t.below.ops b a))

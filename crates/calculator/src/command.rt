@@ -76,7 +76,7 @@ pub enum Reason {
     NoPlace,
     // the second word is no base's modulus
     UnknownBase,
-    // the second word is no number of a system, or is too large
+    // the second word, which is to number a system, is no number, or is too large
     UnknownSystem,
     // the third word names no call
     UnknownCall,
