@@ -2,5 +2,6 @@
 #![tactic(auto)]
 
 pub mod base_systems;
+pub mod elements;
 pub mod encoded;
 mod single;
