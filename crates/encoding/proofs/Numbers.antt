@@ -1,7 +1,9 @@
 -- Numbers as four bytes each, and back.
-use Rattle.std.proofs.Common.{◌≡◌, ℕ, suc, ◌*◌, List, [], ◌∷◌, ◌++◌, length, take, drop, refl, ap, ◌∙◌, subst, arith}
+use Rattle.std.proofs.Common.{◌≡◌, ℕ, ◌^◌, ◌<◌, suc, ◌*◌, List, [], ◌∷◌, ◌++◌, length, take, drop, refl, ap, ◌∙◌, subst, arith}
 use Prim.Native.Nat as N
+use Rattle.std.proofs.lemmas.Nat.{from_le_bytes-to_le_bytes_4}
 use Rattle.std.specs.Int.{w32, to_le_bytes, from_le_bytes}
+use Rattle.algebra.specs.Polynomial.{Each}
 use Rattle.extensions.specs.Tuples.{Tuple}
 use Rattle.extensions.specs.Extensions.{joined}
 use Rattle.encoding.specs.Bytes.{bytes_of, numbers_of}
@@ -52,3 +54,8 @@ numbers_drop m l = subst (λ i. numbers_of (drop i l) ≡ drop m (numbers_of l))
 
 pub numbers_take : (m : ℕ) (l : List ℕ) → numbers_of (take (4 * m) l) ≡ take m (numbers_of l)
 numbers_take m l = subst (λ i. numbers_of (take i l) ≡ take m (numbers_of l)) (fours_is m) (take_fours m l)
+
+-- numbers below 2^32 are read back from their bytes
+pub read_back : (l : List ℕ) → Each (λ n. n < 2 ^ 32) l → numbers_of (bytes_of l) ≡ l
+read_back [] h = refl
+read_back (n ∷ l) h = λ i. from_le_bytes-to_le_bytes_4 n h.0 i ∷ read_back l h.1 i
