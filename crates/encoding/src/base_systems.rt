@@ -18,7 +18,7 @@ impl Encoded for Bit {
     }
 
     fn encode(&self, out: &mut [u8]) -> Result<(), Refusal> {
-        write(self.number_at(0), out)
+        write(u32::from(self.is_one()), out)
     }
 }
 

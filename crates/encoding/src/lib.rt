@@ -14,6 +14,9 @@ ghost use Rattle.encoding.specs.Bytes.{encoding, WholeLength, RefusedBytes};
 
 use encoded::Encoded;
 
+#[cfg(test)]
+mod tests;
+
 // What the encodings of a system are, as theorems: the function does nothing when it runs. Encoding and then decoding gives an element back, since its encoding is not refused and
 // no other element has it. An extension's encoding is those of the coefficients, joined.
 pub fn laws<S: Encoded>()
