@@ -5,7 +5,7 @@ use mornings::items::Fault;
 use std::io::{BufRead, BufReader};
 
 // The morning that standard input tells. Each bad line is printed with its number and its reason, and what is lacking at the end; then there is no morning.
-pub fn gather(rt: &HostRuntime) -> anyhow::Result<Morning> {
+pub(crate) fn gather(rt: &HostRuntime) -> anyhow::Result<Morning> {
     let heap = rt.alloc();
     let mut draft = Draft::new(heap);
     let mut number = 0u64;

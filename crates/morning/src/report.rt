@@ -7,7 +7,7 @@ use reading::states::Figure;
 use std::alloc::{AllocError, Global};
 
 // The list of an element, as it is printed.
-pub fn show<S: PrefixListed>(heap: Global, x: &S) -> Result<String, AllocError> {
+pub(crate) fn show<S: PrefixListed>(heap: Global, x: &S) -> Result<String, AllocError> {
     let numbers: Vec<u64> = (0..S::size())
         .map(|i| u64::from(x.number_at(i)))
         .collect(heap)?;
@@ -15,7 +15,7 @@ pub fn show<S: PrefixListed>(heap: Global, x: &S) -> Result<String, AllocError> 
 }
 
 // A call with its answer.
-pub fn print_call<S: PrefixListed>(
+pub(crate) fn print_call<S: PrefixListed>(
     rt: &HostRuntime,
     call: Call,
     answer: &Result<Answer<S>, Refusal>,
@@ -39,7 +39,10 @@ pub fn print_call<S: PrefixListed>(
 }
 
 // The figure that a device shows.
-pub fn print_figure<S: PrefixListed>(rt: &HostRuntime, figure: &Figure<S>) -> anyhow::Result<()> {
+pub(crate) fn print_figure<S: PrefixListed>(
+    rt: &HostRuntime,
+    figure: &Figure<S>,
+) -> anyhow::Result<()> {
     let heap = rt.alloc();
     let point = show(heap, &figure.element())?;
     let count = figure.count();

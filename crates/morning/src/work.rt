@@ -63,7 +63,7 @@ fn read_device<S: PrefixListed>(
 }
 
 // Reads the sheets of the dock and of the handsets at one element, and compares each handset's figure with the dock's.
-pub fn work<S: PrefixListed>(rt: &HostRuntime, morning: &Morning) -> anyhow::Result<()> {
+pub(crate) fn work<S: PrefixListed>(rt: &HostRuntime, morning: &Morning) -> anyhow::Result<()> {
     let x = find_point::<S>(rt, morning)?;
     println!(rt; "system {}", morning.system)?;
     println!(rt; "dock")?;
