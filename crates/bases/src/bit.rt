@@ -1,12 +1,14 @@
 // The field of two elements.
-ghost use Rattle.std.proofs.Common.{lit≤};
 ghost use Rattle.std.specs.Prelude.{◌≡◌};
 ghost use Rattle.bases.specs.Bits.{bits};
 ghost use Rattle.bases.specs.BitsLemmas.{bits_lawful};
 
-use numbers::listed::{Listed, PrefixListed};
+use numbers::listed::Listed;
 use numbers::refusal::Refusal;
 use numbers::system::System;
+
+// how far lists are shown
+mod prefix_list;
 
 // An element of the field of two elements: one where it is on, else zero.
 #[derive(Clone, Copy)]
@@ -100,7 +102,7 @@ impl System for Bit {
 }
 
 // As for residues: one function for both would ask three facts of the system, to save three lines.
-impl PrefixListed for Bit {
+impl Listed for Bit {
     fn size() -> usize {
         1
     }
@@ -112,11 +114,7 @@ impl PrefixListed for Bit {
         }
     }
 
-    fn number_at(&self, place: usize) -> u32 {
-        u32::from(place == 0 && self.on)
+    fn number_at(&self, place: usize) -> u64 {
+        u64::from(place == 0 && self.on)
     }
-}
-
-impl Listed for Bit {
-    ghost whole = { lit≤ tt };
 }

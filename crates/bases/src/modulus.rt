@@ -4,7 +4,7 @@ ghost use Rattle.std.specs.Prelude.{◌≡◌, ℕ};
 ghost use Rattle.bases.specs.Bounds.{Bounds};
 
 // A type that stands for a modulus from 2 to 2^31 − 1. A const parameter would bring no proof of its range.
-pub trait Modulus {
+pub trait Modulus: Copy + Default {
     const MODULUS: u32;
 
     ghost MODULUS: { ℕ };
@@ -13,7 +13,7 @@ pub trait Modulus {
 }
 
 // The prime 2^31 − 2^24 + 1.
-#[derive(Clone, Copy)]
+#[derive(Clone, Copy, Default)]
 pub struct KoalaBear;
 
 impl Modulus for KoalaBear {
@@ -25,7 +25,7 @@ impl Modulus for KoalaBear {
 }
 
 // The prime 2^31 − 1.
-#[derive(Clone, Copy)]
+#[derive(Clone, Copy, Default)]
 pub struct Mersenne31;
 
 impl Modulus for Mersenne31 {
@@ -37,7 +37,7 @@ impl Modulus for Mersenne31 {
 }
 
 // The prime 2^31 − 2^27 + 1.
-#[derive(Clone, Copy)]
+#[derive(Clone, Copy, Default)]
 pub struct BabyBear;
 
 impl Modulus for BabyBear {
@@ -49,7 +49,7 @@ impl Modulus for BabyBear {
 }
 
 // The prime 11.
-#[derive(Clone, Copy)]
+#[derive(Clone, Copy, Default)]
 pub struct Eleven;
 
 impl Modulus for Eleven {

@@ -1,16 +1,18 @@
 // Residues modulo m.
-ghost use Rattle.std.proofs.Common.{lit≤};
 ghost use Rattle.std.specs.Prelude.{◌≡◌, ◌%◌, ◌^◌, ◌<◌, ◌≤◌, Some, None, ⊤};
 ghost use Rattle.bases.specs.Residues.{residues, res};
 ghost use Rattle.bases.specs.ResiduesLemmas.{residues_lawful};
 
 use crate::euclid::inverse_modulo;
 use crate::modulus::Modulus;
-use numbers::listed::{Listed, PrefixListed};
+use numbers::listed::Listed;
 use numbers::refusal::Refusal;
 use numbers::system::System;
 use std::alloc::AllocError;
 use std::marker::PhantomData;
+
+// how far lists are shown
+mod prefix_list;
 
 // A residue modulo the m of `M`. Any number below 2^31 with that remainder may hold it.
 pub struct Residue<M> {
@@ -131,7 +133,7 @@ impl<M: Modulus> System for Residue<M> {
     }
 }
 
-impl<M: Modulus> PrefixListed for Residue<M> {
+impl<M: Modulus> Listed for Residue<M> {
     fn size() -> usize {
         1
     }
@@ -143,15 +145,11 @@ impl<M: Modulus> PrefixListed for Residue<M> {
         }
     }
 
-    fn number_at(&self, place: usize) -> u32 {
+    fn number_at(&self, place: usize) -> u64 {
         if place == 0 {
-            self.value % M::MODULUS
+            u64::from(self.value % M::MODULUS)
         } else {
             0
         }
     }
-}
-
-impl<M: Modulus> Listed for Residue<M> {
-    ghost whole = { lit≤ tt };
 }

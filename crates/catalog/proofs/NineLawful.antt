@@ -1,4 +1,4 @@
--- Systems of the catalog, and the systems below them, keep the laws of number systems.
+-- The nine systems, and the systems below them, keep the laws of number systems.
 use Rattle.std.proofs.Common.{lit≤}
 use Rattle.bases.specs.Residues.{res}
 use Rattle.bases.specs.BitsLemmas.{bits_lawful}
@@ -6,7 +6,7 @@ use Rattle.bases.specs.ResiduesLemmas.{residues_lawful}
 use Rattle.extensions.proofs.Lawful.{binomial_lawful, trinomial_lawful}
 use Rattle.extensions.proofs.Products.{quadratic_passes, cubic_passes, quartic_passes, quintic_passes, octic_passes}
 use Rattle.numbers.specs.Systems.{Lawful}
-use Rattle.catalog.specs.Catalog.{koala_bear, mersenne_31, baby_bear, eleven, system_1, system_2, system_3, system_4, system_5, system_7, system_8, system_9}
+use Rattle.catalog.specs.Catalog.{koala_bear, mersenne_31, baby_bear, eleven, system_1, system_2, system_3, system_4, system_5, system_6, system_7, system_8, system_9}
 
 pub koala_bear_lawful : Lawful koala_bear
 koala_bear_lawful = residues_lawful 2130706433 (lit≤ tt)
@@ -34,6 +34,9 @@ lawful_4 = binomial_lawful 1 quadratic_passes mersenne_31 mersenne_31_lawful (re
 
 pub lawful_5 : Lawful system_5
 lawful_5 = binomial_lawful 2 cubic_passes system_4 lawful_4 (res 2147483647 (lit≤ tt) 0, (res 2147483647 (lit≤ tt) 5, tt))
+
+pub lawful_6 : Lawful system_6
+lawful_6 = binomial_lawful 4 quintic_passes baby_bear baby_bear_lawful (res 2013265921 (lit≤ tt) 31)
 
 pub lawful_7 : Lawful system_7
 lawful_7 = trinomial_lawful _ bits_lawful

@@ -13,7 +13,7 @@ use quadratic::pair::Pair;
 use quadratic::quadratic::Quadratic;
 
 // The whole number N as the constant w: its residue, whatever the modulus.
-#[derive(Clone, Copy)]
+#[derive(Clone, Copy, Default)]
 pub struct Whole<const N: u32>;
 
 impl<M: Modulus, const N: u32> BinomialConstants<Residue<M>> for Whole<N> {
@@ -35,7 +35,7 @@ impl ComplexConstants<Residue<Mersenne31>> for MinusOne {
 pub type Complex = Quadratic<Residue<Mersenne31>, MinusOne>;
 
 // w = [0, 5], five times the imaginary unit
-#[derive(Clone, Copy)]
+#[derive(Clone, Copy, Default)]
 pub struct FiveI;
 
 impl BinomialConstants<Complex> for FiveI {

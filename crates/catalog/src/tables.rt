@@ -68,7 +68,7 @@ fn row<N: Copy, S: From<N>>(given: &[N; 5]) -> Quintuple<S>
 }
 
 // The trinomial's constants over 2130706433.
-#[derive(Clone, Copy)]
+#[derive(Clone, Copy, Default)]
 pub struct KoalaBearTable;
 
 impl TrinomialConstants<Residue<KoalaBear>> for KoalaBearTable {
@@ -86,7 +86,7 @@ impl TrinomialConstants<Residue<KoalaBear>> for KoalaBearTable {
 }
 
 // The trinomial's constants over the two elements.
-#[derive(Clone, Copy)]
+#[derive(Clone, Copy, Default)]
 pub struct BitTable;
 
 impl TrinomialConstants<Bit> for BitTable {

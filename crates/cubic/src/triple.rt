@@ -2,7 +2,7 @@
 ghost use Rattle.std.proofs.Common.{lit≤};
 ghost use Rattle.cubic.specs.Triples.{triple};
 
-use extensions::coefficients::Coefficients;
+use extensions::coefficients::{Coefficients, Operation};
 use numbers::system::System;
 
 // c0 + c1 X + c2 X²
@@ -47,6 +47,14 @@ impl<S: System> Coefficients<S> for Triple<S> {
             1 => self.c1 = x,
             2 => self.c2 = x,
             _ => {}
+        }
+    }
+
+    fn combine<O: Operation<S>>(operation: &O, a: &Triple<S>, b: &Triple<S>) -> Triple<S> {
+        Triple {
+            c0: operation.apply(&a.c0, &b.c0),
+            c1: operation.apply(&a.c1, &b.c1),
+            c2: operation.apply(&a.c2, &b.c2),
         }
     }
 }

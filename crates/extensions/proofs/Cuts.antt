@@ -9,7 +9,8 @@ use Rattle.numbers.specs.Lists.{Refused}
 use Rattle.numbers.specs.declared.refusal.Refusal.{Refusal}
 use Rattle.numbers.specs.declared.refusal.Refusal.TheVariants.{CutList}
 use Rattle.extensions.specs.Tuples.{Tuple, entries}
-use Rattle.extensions.specs.Extensions.{joined, Parts, extension}
+use Rattle.extensions.specs.Extensions.{joined, Parts}
+use Rattle.extensions.specs.Layers.{Extends}
 
 no_length : (l : List ℕ) → length l ≡ 0 → l ≡ []
 no_length [] e = refl
@@ -113,26 +114,28 @@ parts_at P p fixed (suc n) l parts (suc k) lt =
     ∙ ap (take p) (sym (drop-drop (k * p) p (h ++ t)) ∙ ap (drop (k * p)) (drop_at h t p (fixed h parts.3)))))
     (parts_at P p fixed n t parts.4 k (omega arith))
 
-module _ (d : ℕ) (B : Sys) (lawful : Lawful B) (times : Tuple (suc d) B.Elem → Tuple (suc d) B.Elem → Tuple (suc d) B.Elem) (l : List ℕ) where
+module _ (d : ℕ) (B : Sys) (lawful : Lawful B) (times : Tuple (suc d) B.Elem → Tuple (suc d) B.Elem → Tuple (suc d) B.Elem) (s : Sys) (e : Extends d B times s)
+    (l : List ℕ) where
   element_length : (m : List ℕ) → B.IsElement m → length m ≡ B.size
   element_length m h = let x = lawful.element_list m h in ap length (sym x.1) ∙ lawful.list_size x.0
 
   -- a length that the degree does not divide is none of an element
-  pub uneven : (length l % suc d ≡ 0 → ⊥) → Refused (extension d B times) (l ∷ []) CutList
-  uneven h = inl (λ sized. h (ap (λ n. n % suc d) sized.0 ∙ Nat.mul-mod_right (suc d) B.size), refl)
+  pub uneven : (length l % suc d ≡ 0 → ⊥) → Refused s (l ∷ []) CutList
+  uneven h = inl (λ sized. h (ap (λ n. n % suc d) (sized.0 ∙ e.size) ∙ Nat.mul-mod_right (suc d) B.size), refl)
 
   -- a part that is refused has the whole list refused likewise
   pub refused_part : (p k : ℕ) → length l ≡ suc d * p → k < suc d → length (take p (drop (k * p) l)) ≡ p → (r : Refusal)
-      → Refused B (take p (drop (k * p) l) ∷ []) r → Refused (extension d B times) (l ∷ []) r
+      → Refused B (take p (drop (k * p) l) ∷ []) r → Refused s (l ∷ []) r
   refused_part p k len lt long r (inl h) =
       inl (
-        (λ sized. h.0 (long ∙ Nat.eq_of_mul-eq-mul_left (suc d) (omega arith) p B.size (sym len ∙ sized.0), tt)),
+        (λ sized. h.0
+            (long ∙ Nat.eq_of_mul-eq-mul_left (suc d) (omega arith) p B.size (sym len ∙ sized.0 ∙ e.size), tt)),
         h.1,
       )
   refused_part p k len lt long r (inr h) =
       let same : p ≡ B.size = sym long ∙ h.0.0 in
       inr (
-        (len ∙ ap (λ n. suc d * n) same, tt),
-        (λ elements. h.1 (parts_at B.IsElement p (λ m x. element_length m x ∙ sym same) (suc d) l elements.0 k lt, tt)),
+        (len ∙ ap (λ n. suc d * n) same ∙ sym e.size, tt),
+        (λ elements. h.1 (parts_at B.IsElement p (λ m x. element_length m x ∙ sym same) (suc d) l (e.parts l elements.0) k lt, tt)),
         h.2,
       )

@@ -28,6 +28,11 @@ pub both_of_each : {A : Type 0} (f : A → A → A) (g : A → A) (n : ℕ) (s t
 both_of_each f g N.zero s t = refl
 both_of_each f g (suc n) s t = λ i. (f s.0 (g t.0), both_of_each f g n s.1 t.1 i)
 
+-- a map of one of both elements alone, here of the first
+pub both_first : {A : Type 0} (f : A → A) (n : ℕ) (t : Tuple n A) → both n (λ x y. f x) t t ≡ each n f t
+both_first f N.zero t = refl
+both_first f (suc n) t = λ i. (f t.0, both_first f n t.1 i)
+
 -- the coefficients of a tabulated tuple, zeros beyond the last
 pub get_or-tabulate : {A : Type 0} (n : ℕ) (f : ℕ → A) (i : ℕ) (z : A) → i < n → get_or (entries n (tabulate n f)) i z ≡ f i
 get_or-tabulate N.zero f i z h = absurd (omega arith)

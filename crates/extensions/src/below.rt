@@ -4,14 +4,28 @@ ghost use Rattle.algebra.specs.Ring.{sub};
 ghost use Rattle.extensions.specs.Conjugates.{embed, scaled};
 ghost use Rattle.extensions.specs.Tuples.{each, both};
 
-use crate::coefficients::{Coefficients, from_fn};
+use crate::coefficients::{Coefficients, Operation};
 use numbers::system::System;
+
+// The product of the first with a factor.
+#[derive(Clone, Copy)]
+struct Times<S> {
+    factor: S,
+}
+
+impl<S: System> Operation<S> for Times<S> {
+    ghost op = { λ t A o m x y. o.mul x (m t.factor) };
+
+    fn apply(&self, x: &S, _y: &S) -> S {
+        x.mul(&self.factor)
+    }
+}
 
 // Each coefficient times one element of the layer below.
 pub fn scale<S: System, E: Coefficients<S>>(a: &E, x: &S) -> E
     ensures { each (suc E.d) S.mean (E.tuple result) ≡ scaled (suc E.d) S.sys.ops (S.mean x.now) (each (suc E.d) S.mean (E.tuple a.now)) }
 {
-    from_fn(|k| a.coefficient(k).mul(x))
+    E::combine(&Times { factor: *x }, a, a)
 }
 
 // Whether every coefficient above power 0 is zero.

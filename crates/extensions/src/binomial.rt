@@ -10,7 +10,7 @@ use numbers::system::System;
 use std::marker::PhantomData;
 
 // The constant of such an extension: w, with X^n = w. Every w is allowed.
-pub trait BinomialConstants<S: System>: Copy {
+pub trait BinomialConstants<S: System>: Copy + Default {
     ghost w: { S };
 
     fn w() -> S

@@ -1,8 +1,17 @@
 // The interface of coefficients: structs that hold those of one degree by name, lowest power first.
-ghost use Rattle.std.specs.Prelude.{◌≡◌, ℕ, suc, ◌<◌, ◌≤◌, slice_index_or, slice_set};
-ghost use Rattle.extensions.specs.Tuples.{Tuple, entries, tabulate, each, fill};
+ghost use Rattle.std.specs.Prelude.{◌≡◌, ℕ, suc, ◌≤◌, slice_index_or, slice_set};
+ghost use Rattle.algebra.specs.Ring.{Ops};
+ghost use Rattle.extensions.specs.Tuples.{Tuple, entries, each, both, fill};
 
 use numbers::system::System;
+
+// What is made of two coefficients at one place: `op` is that as a formula over any operations, in which constants that the operation holds have a meaning.
+pub trait Operation<S: System> {
+    ghost op: { Self → (A : Type 0) → Ops A → (S → A) → A → A → A };
+
+    fn apply(&self, x: &S, y: &S) -> S
+        ensures { S.mean result ≡ op self.now S.sys.Elem S.sys.ops S.mean (S.mean x.now) (S.mean y.now) };
+}
 
 // A type whose values hold the coefficients of an element: `d` is the degree less one, and `tuple` has them in their order.
 // There is a struct for each degree, since the project's rules want coefficients as single named fields. What the coefficients mean, `each (suc d) S.mean (tuple a)`, is written
@@ -28,18 +37,9 @@ pub trait Coefficients<S: System>: Copy {
     fn set_coefficient(&mut self, k: usize, x: S)
         ensures { entries (suc d) (tuple self.new) ≡ slice_set (entries (suc d) (tuple self.old)) k x };
 
-    ghost several: { 1 ≤ d };
-}
+    // What the operation makes of the coefficients of both, power by power. Each struct names its fields here, so that nothing is looked up or copied by its place.
+    fn combine<O: Operation<S>>(operation: &O, a: &Self, b: &Self) -> Self
+        ensures { each (suc d) S.mean (tuple result) ≡ both (suc d) (O.op operation.now S.sys.Elem S.sys.ops S.mean) (each (suc d) S.mean (tuple a.now)) (each (suc d) S.mean (tuple b.now)) };
 
-// The coefficients that f answers at each power: where each answer means what g has there, they mean g.
-pub(crate) fn from_fn<S: System, V: Coefficients<S>, F: Fn(usize) -> S>(f: F) -> V
-    requires { F.IsAlwaysCallable f }
-    ensures { (g : ℕ → S.sys.Elem) → ((j : ℕ) (x : S) → j < suc V.d → F.post f j x → S.mean x ≡ g j) → each (suc V.d) S.mean (V.tuple result) ≡ tabulate (suc V.d) g }
-{
-    // by places, since named fields have no iterator
-    let mut res = V::fill(S::zero());
-    for k in 0..V::degree() {
-        res.set_coefficient(k, f(k));
-    }
-    res
+    ghost several: { 1 ≤ d };
 }

@@ -1,5 +1,6 @@
 // Conjugates: the Frobenius map of an extension, and the inverse by the product of conjugates.
 ghost use Rattle.std.specs.Prelude.{◌≡◌, ℕ, suc, Some, None};
+ghost use Rattle.algebra.specs.Ring.{power};
 ghost use Rattle.extensions.specs.Conjugates.{Formula, repeated, conjugates, Conjugation, RootLaw, root_frobenius_map, PseudoInverse, NoPseudoInverse};
 ghost use Rattle.extensions.specs.Extensions.{extend};
 ghost use Rattle.extensions.specs.Schoolbook.{binomial};
@@ -10,7 +11,7 @@ use crate::coefficients::Coefficients;
 use crate::element::Element;
 use crate::extension::Extension;
 use crate::rule::Rule;
-use numbers::powers::{Powers, exp_u64};
+use numbers::powers::exp_u64;
 use numbers::system::System;
 
 // An extension with conjugates: `conjugate` is its Frobenius map as a formula. Only an extension whose constants keep their law has it.
@@ -53,16 +54,25 @@ impl<S: System, V: Coefficients<S>, R: ConjugateRule<V, S>> Conjugates<S> for El
     }
 }
 
+// z to the power k, made of the power before it; the second is a square, which takes less than a product.
+fn next_power<S: System>(z: &S, before: &S, k: usize) -> S
+    ensures { S.sys.ops.mul (S.mean z.now) (S.mean before.now) ≡ power S.sys.ops (S.mean z.now) k → S.mean result ≡ power S.sys.ops (S.mean z.now) k }
+{
+    if k == 2 { z.square() } else { before.mul(z) }
+}
+
 // The image by a root z of one: coefficient i times z^i. Where z keeps the root law, these are conjugates, whatever w is.
 pub fn root_frobenius<S: System, E: Coefficients<S>>(a: &E, z: &S) -> E
     ensures image { each (suc E.d) S.mean (E.tuple result) ≡ root_frobenius_map (suc E.d) S.sys.ops (S.mean z.now) (each (suc E.d) S.mean (E.tuple a.now)) }
     ensures conjugation { RootLaw S.sys.ops (suc E.d) (S.mean z.now) → (w : S.sys.Elem) → Conjugation E.d S.sys.ops (binomial (suc E.d) S.sys.ops w) (root_frobenius_map (suc E.d) S.sys.ops (S.mean z.now)) }
 {
-    // by places, since each takes the next power and named fields have no iterator
-    let mut powers = Powers::new(*z);
-    let mut res = E::fill(S::zero());
-    for k in 0..E::degree() {
-        res.set_coefficient(k, a.coefficient(k).mul(&powers.next()));
+    // by places, since each takes one power more and named fields have no iterator; the coefficient at power 0 stays
+    let mut res = *a;
+    let mut power = *z;
+    res.set_coefficient(1, a.coefficient(1).mul(z));
+    for k in 2..E::degree() {
+        power = next_power(z, &power, k);
+        res.set_coefficient(k, a.coefficient(k).mul(&power));
     }
     res
 }

@@ -4,7 +4,7 @@ ghost use Rattle.extensions.specs.Extensions.{extension};
 ghost use Rattle.extensions.specs.Layers.{extension_extends};
 ghost use Rattle.extensions.specs.Tuples.{each};
 
-use crate::coefficients::Coefficients;
+use crate::coefficients::{Coefficients, Operation};
 use crate::extension::Extension;
 use crate::rule::Rule;
 use crate::vectors::{
@@ -56,6 +56,14 @@ impl<S: System, V: Coefficients<S>, R: Rule<V, S>> Coefficients<S> for Element<S
 
     fn set_coefficient(&mut self, k: usize, x: S) {
         self.value.set_coefficient(k, x)
+    }
+
+    fn combine<O: Operation<S>>(
+        operation: &O,
+        a: &Element<S, V, R>,
+        b: &Element<S, V, R>,
+    ) -> Element<S, V, R> {
+        Self::new(V::combine(operation, &a.value, &b.value))
     }
 }
 

@@ -4,8 +4,42 @@ ghost use Rattle.algebra.specs.Ring.{sub};
 ghost use Rattle.extensions.specs.Conjugates.{embed};
 ghost use Rattle.extensions.specs.Tuples.{each, both, fill};
 
-use crate::coefficients::{Coefficients, from_fn};
+use crate::coefficients::{Coefficients, Operation};
 use numbers::system::System;
+
+#[derive(Clone, Copy)]
+struct Sum;
+
+impl<S: System> Operation<S> for Sum {
+    ghost op = { λ _ A o m x y. o.add x y };
+
+    fn apply(&self, x: &S, y: &S) -> S {
+        x.add(y)
+    }
+}
+
+#[derive(Clone, Copy)]
+struct Difference;
+
+impl<S: System> Operation<S> for Difference {
+    ghost op = { λ _ A o m x y. sub o x y };
+
+    fn apply(&self, x: &S, y: &S) -> S {
+        x.sub(y)
+    }
+}
+
+// The negative of the first.
+#[derive(Clone, Copy)]
+struct Negative;
+
+impl<S: System> Operation<S> for Negative {
+    ghost op = { λ _ A o m x y. o.neg x };
+
+    fn apply(&self, x: &S, _y: &S) -> S {
+        x.neg()
+    }
+}
 
 // Zero at every power.
 pub fn vector_zero<S: System, V: Coefficients<S>>() -> V
@@ -26,19 +60,19 @@ pub fn vector_from_base<S: System, V: Coefficients<S>>(x: S) -> V
 pub fn vector_add<S: System, V: Coefficients<S>>(a: &V, b: &V) -> V
     ensures { each (suc V.d) S.mean (V.tuple result) ≡ both (suc V.d) S.sys.ops.add (each (suc V.d) S.mean (V.tuple a.now)) (each (suc V.d) S.mean (V.tuple b.now)) }
 {
-    from_fn(|k| a.coefficient(k).add(&b.coefficient(k)))
+    V::combine(&Sum, a, b)
 }
 
 pub fn vector_sub<S: System, V: Coefficients<S>>(a: &V, b: &V) -> V
     ensures { each (suc V.d) S.mean (V.tuple result) ≡ both (suc V.d) (sub S.sys.ops) (each (suc V.d) S.mean (V.tuple a.now)) (each (suc V.d) S.mean (V.tuple b.now)) }
 {
-    from_fn(|k| a.coefficient(k).sub(&b.coefficient(k)))
+    V::combine(&Difference, a, b)
 }
 
 pub fn vector_neg<S: System, V: Coefficients<S>>(a: &V) -> V
     ensures { each (suc V.d) S.mean (V.tuple result) ≡ each (suc V.d) S.sys.ops.neg (each (suc V.d) S.mean (V.tuple a.now)) }
 {
-    from_fn(|k| a.coefficient(k).neg())
+    V::combine(&Negative, a, a)
 }
 
 // Whether both mean the same coefficients.

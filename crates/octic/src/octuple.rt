@@ -2,7 +2,7 @@
 ghost use Rattle.std.proofs.Common.{lit≤};
 ghost use Rattle.octic.specs.Octuples.{octuple};
 
-use extensions::coefficients::Coefficients;
+use extensions::coefficients::{Coefficients, Operation};
 use numbers::system::System;
 
 // c0 + c1 X + c2 X² + c3 X³ + c4 X⁴ + c5 X⁵ + c6 X⁶ + c7 X⁷
@@ -67,6 +67,19 @@ impl<S: System> Coefficients<S> for Octuple<S> {
             6 => self.c6 = x,
             7 => self.c7 = x,
             _ => {}
+        }
+    }
+
+    fn combine<O: Operation<S>>(operation: &O, a: &Octuple<S>, b: &Octuple<S>) -> Octuple<S> {
+        Octuple {
+            c0: operation.apply(&a.c0, &b.c0),
+            c1: operation.apply(&a.c1, &b.c1),
+            c2: operation.apply(&a.c2, &b.c2),
+            c3: operation.apply(&a.c3, &b.c3),
+            c4: operation.apply(&a.c4, &b.c4),
+            c5: operation.apply(&a.c5, &b.c5),
+            c6: operation.apply(&a.c6, &b.c6),
+            c7: operation.apply(&a.c7, &b.c7),
         }
     }
 }

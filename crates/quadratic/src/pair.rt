@@ -2,7 +2,7 @@
 ghost use Rattle.std.proofs.Common.{lit≤};
 ghost use Rattle.quadratic.specs.Pairs.{pair};
 
-use extensions::coefficients::Coefficients;
+use extensions::coefficients::{Coefficients, Operation};
 use numbers::system::System;
 
 // c0 + c1 X
@@ -40,6 +40,13 @@ impl<S: System> Coefficients<S> for Pair<S> {
             0 => self.c0 = x,
             1 => self.c1 = x,
             _ => {}
+        }
+    }
+
+    fn combine<O: Operation<S>>(operation: &O, a: &Pair<S>, b: &Pair<S>) -> Pair<S> {
+        Pair {
+            c0: operation.apply(&a.c0, &b.c0),
+            c1: operation.apply(&a.c1, &b.c1),
         }
     }
 }

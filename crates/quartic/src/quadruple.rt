@@ -2,7 +2,7 @@
 ghost use Rattle.std.proofs.Common.{lit≤};
 ghost use Rattle.quartic.specs.Quadruples.{quadruple};
 
-use extensions::coefficients::Coefficients;
+use extensions::coefficients::{Coefficients, Operation};
 use numbers::system::System;
 
 // c0 + c1 X + c2 X² + c3 X³
@@ -51,6 +51,15 @@ impl<S: System> Coefficients<S> for Quadruple<S> {
             2 => self.c2 = x,
             3 => self.c3 = x,
             _ => {}
+        }
+    }
+
+    fn combine<O: Operation<S>>(operation: &O, a: &Quadruple<S>, b: &Quadruple<S>) -> Quadruple<S> {
+        Quadruple {
+            c0: operation.apply(&a.c0, &b.c0),
+            c1: operation.apply(&a.c1, &b.c1),
+            c2: operation.apply(&a.c2, &b.c2),
+            c3: operation.apply(&a.c3, &b.c3),
         }
     }
 }

@@ -2,7 +2,7 @@
 ghost use Rattle.std.proofs.Common.{lit≤};
 ghost use Rattle.quintic.specs.Quintuples.{quintuple};
 
-use extensions::coefficients::Coefficients;
+use extensions::coefficients::{Coefficients, Operation};
 use numbers::system::System;
 
 // c0 + c1 X + c2 X² + c3 X³ + c4 X⁴
@@ -55,6 +55,16 @@ impl<S: System> Coefficients<S> for Quintuple<S> {
             3 => self.c3 = x,
             4 => self.c4 = x,
             _ => {}
+        }
+    }
+
+    fn combine<O: Operation<S>>(operation: &O, a: &Quintuple<S>, b: &Quintuple<S>) -> Quintuple<S> {
+        Quintuple {
+            c0: operation.apply(&a.c0, &b.c0),
+            c1: operation.apply(&a.c1, &b.c1),
+            c2: operation.apply(&a.c2, &b.c2),
+            c3: operation.apply(&a.c3, &b.c3),
+            c4: operation.apply(&a.c4, &b.c4),
         }
     }
 }

@@ -1,12 +1,12 @@
 -- Every reading is sound.
-use Rattle.std.proofs.Common.{◌≡◌, length}
-use Rattle.std.specs.Coded.{Coded-set, coded_list, coded_ℕ}
+use Rattle.std.proofs.Common.{◌≡◌, ◌≤◌, length}
+use Rattle.std.specs.Coded.{Coded-set, coded_list, coded_ℕ, le_prop}
 use Rattle.std.proofs.Math.Logic.{∥∥₁_elim, ∥∥₁_prop}
 use mathlib.Core.HLevel.{is_prop→PathP}
 use mathlib.Mathlib.Logic.Function.Defs.Injective
 use Rattle.algebra.specs.Ring.{power as to_power}
 use Rattle.numbers.specs.Systems.{Sys, Lawful}
-use Rattle.reading.specs.Sheet.{sum_of, Below, Below_prop}
+use Rattle.reading.specs.Sheet.{most, sum_of, Below, Below_prop}
 use Rattle.reading.specs.Sound.{Sound}
 use Rattle.reading.specs.declared.states.Reading.{Reading}
 
@@ -29,6 +29,7 @@ same_reading {G = G} r s point entries sum power = λ i. record {
   entries = entries i;
   sum = sum i;
   power = power i;
+  fits = is_prop→PathP (λ j. length (entries j) ≤ most) (λ j. le_prop) r.fits s.fits i;
   summed = is_prop→PathP (λ j. ∥ G.mean (sum j) ≡ sum_of G.sys (G.mean (point j).element) (entries j) ∥₁) (λ j. ∥∥₁_prop) r.summed s.summed i;
   raised = is_prop→PathP (λ j. ∥ G.mean (power j) ≡ to_power G.sys.ops (G.mean (point j).element) (length (entries j)) ∥₁) (λ j. ∥∥₁_prop) r.raised s.raised i;
   below = is_prop→PathP (λ j. Below G.sys.limit (entries j)) (λ j. Below_prop G.sys.limit (entries j)) r.below s.below i;

@@ -74,8 +74,12 @@ module _ {A : Type 0} (o : Ops A) (W : Laws o) where
       ∙ ap (λ t. t ⊕ f ⊗ (x ⊗ p)) (sym (at_cons x d L))
 
   -- one power more
+  pub power_next : (x : A) (n : ℕ) → power o x n ⊗ x ≡ power o x (suc n)
+  power_next x n = mul_comm (power o x n) x
+
+  -- the power of the count, once an entry more stands at the end
   pub power-append : (x : A) (L : List ℕ) (e : ℕ) → power o x (length L) ⊗ x ≡ power o x (length (L ++ (e ∷ [])))
-  power-append x L e = mul_comm (power o x (length L)) x ∙ ap (power o x) (sym (length-append L (e ∷ []) ∙ add-one (length L)))
+  power-append x L e = power_next x (length L) ∙ ap (power o x) (sym (length-append L (e ∷ []) ∙ add-one (length L)))
 
   -- one power less
   pub power-drop : (x i : A) (n : ℕ) → Inverts o x i → power o x (suc n) ⊗ i ≡ power o x n

@@ -3,10 +3,10 @@
 //
 // What is true of every point and of every reading stands in ghost fields. That an equation between elements has one proof follows from the laws of the
 // system, which a ghost field cannot cite, so these equations are truncated; `sound` of proofs/Soundness.antt gives them back.
-ghost use Rattle.std.specs.Prelude.{◌≡◌, length};
+ghost use Rattle.std.specs.Prelude.{◌≡◌, ◌≤◌, length};
 ghost use Rattle.algebra.specs.Ring.{power as to_power};
 ghost use Rattle.algebra.specs.Units.{Inverts};
-ghost use Rattle.reading.specs.Sheet.{sum_of, Below, Below_prop};
+ghost use Rattle.reading.specs.Sheet.{most, sum_of, Below, Below_prop};
 
 use crate::entries::Entries;
 pub use crate::entries::MOST;
@@ -32,6 +32,7 @@ pub struct Reading<S: System> {
     entries: Entries,
     sum: S,
     power: S,
+    ghost fits: { length entries ≤ most },
     ghost summed: { ∥ S.mean sum ≡ sum_of S.sys (S.mean point.element) entries ∥₁ },
     ghost raised: { ∥ S.mean power ≡ to_power S.sys.ops (S.mean point.element) (length entries) ∥₁ },
     ghost below: { Below S.sys.limit entries } by { Below_prop S.sys.limit entries },

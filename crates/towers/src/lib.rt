@@ -16,7 +16,7 @@ use octic::octic::Octic;
 mod tests;
 
 // The modulus 12.
-#[derive(Clone, Copy)]
+#[derive(Clone, Copy, Default)]
 pub struct Twelve;
 
 impl Modulus for Twelve {
@@ -28,7 +28,7 @@ impl Modulus for Twelve {
 }
 
 // X³ = 5; a type of its own, so that the tower stands without the catalog
-#[derive(Clone, Copy)]
+#[derive(Clone, Copy, Default)]
 pub struct Five;
 
 impl BinomialConstants<Residue<Twelve>> for Five {
@@ -40,7 +40,7 @@ impl BinomialConstants<Residue<Twelve>> for Five {
 }
 
 // Y⁸ = X
-#[derive(Clone, Copy)]
+#[derive(Clone, Copy, Default)]
 pub struct CubicRoot;
 
 impl BinomialConstants<Cubic<Residue<Twelve>, Five>> for CubicRoot {

@@ -17,7 +17,7 @@ use quintic::quintuple::Quintuple;
 use std::marker::PhantomData;
 
 // The constants of the extension: the rows of Frobenius, by which inverses are found.
-pub trait TrinomialConstants<S: System>: Copy {
+pub trait TrinomialConstants<S: System>: Copy + Default {
     ghost table: { Rows S };
 
     // The rows keep the table law.
